@@ -1,0 +1,61 @@
+-- `clock::edges::Clock::count_to` meets its contract.
+use mathlib.Core.Path.{sym, _∙_}
+use native.Mathlib.Omega.{arith}
+use borrow.Author.Tests.{ltb-false}
+use borrow.Author.Needs.{needs}
+use Rattle.clock.proofs.Positions.{valid, value-words, end-after, edge-count}
+use Rattle.clock.specs.Clock.{position, edgesTo}
+use Rattle.clock.specs.Time.{raw}
+use Rattle.clock.proofs.Rates.{lcd-bounds}
+use Rattle.clock.proofs.edges.Clock.count_to.Statement.{statement}
+use Rattle.clock.proofs.edges.Clock.count_to.Tie as tie
+
+lt-requires : tie.Need-lt-requires
+lt-requires c κs = search needs
+
+returns : tie.Need-returns
+unfolding edgesTo
+returns c = simp (sym (c .before .lt .ensures) ∙ c .if1 .taken)
+
+sub-position-of : tie.Need-sub-position-of
+sub-position-of c = omega (arith, lcd-bounds (c .before .before .before .before .args .rate) (c .before .before .before .before .pre .0) .low)
+
+position-of-requires : tie.Need-position-of-requires
+position-of-requires c κs = (c .before .before .before .before .pre .1 .1, (c .before .before .before .before .pre .0, omega (arith, lcd-bounds (c .before .before .before .before .args .rate) (c .before .before .before .before .pre .0) .low)))
+
+position-of-requires-2 : tie.Need-position-of-requires-2
+position-of-requires-2 c κs =
+    let v = valid (c .before .before .before .before .before .args .rate) (c .before .before .before .before .before .args .self) (c .before .before .before .before .before .pre .1 .0) in
+    (v .in-range, (c .before .before .before .before .before .pre .0, v .fraction-lt))
+
+high-of-difference-requires : tie.Need-high-of-difference-requires
+high-of-difference-requires c κs =
+    let a = c .before .before .before .before .before .before .args in
+    let v = valid (a .rate) (a .self) (c .before .before .before .before .before .before .pre .1 .0) in
+    let later = ltb-false _ _ (sym (c .before .before .before .before .lt .ensures) ∙ c .before .before .before .if1 .left) in
+    simp (c .before .position-of .ensures, c .position-of2 .ensures, value-words)
+    (end-after (raw (a .self .at)) (raw (a .now)) (a .rate .numerator) (a .self .fraction) (v .fraction-lt) later)
+
+div-result : tie.Need-div-result
+div-result c = lcd-bounds (c .before .before .before .before .before .before .before .before .args .rate) (c .before .before .before .before .before .before .before .before .pre .0) .denominator-low
+
+returns-2 : tie.Need-returns-2
+unfolding edgesTo position
+returns-2 c =
+    let a = c .before .before .before .before .before .before .before .before .args in
+    let b = lcd-bounds (a .rate) (c .before .before .before .before .before .before .before .before .pre .0) in
+    simp (sym (c .before .before .before .before .before .before .lt .ensures) ∙ c .before .before .before .before .before .if1 .left, c .before .high-of-difference .ensures, c .before .before .before .position-of .ensures, c .before .before .position-of2 .ensures, value-words)
+    (edge-count (raw (a .now)) (a .rate .numerator) _ (a .rate .denominator) (omega (arith, b .low)))
+
+pub count-to-spec : {M : Type 1} → statement M
+count-to-spec =
+    tie.close
+    (tie.spec
+    lt-requires
+    returns
+    sub-position-of
+    position-of-requires
+    position-of-requires-2
+    high-of-difference-requires
+    div-result
+    returns-2)

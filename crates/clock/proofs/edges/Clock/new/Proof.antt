@@ -1,0 +1,32 @@
+-- `clock::edges::Clock::new` meets its contract.
+use borrow.Author.Needs.{needs}
+use Rattle.clock.proofs.Tests.{failed, passed}
+use Rattle.clock.specs.Clock.{newClock}
+use Rattle.clock.proofs.edges.Clock.new.Statement.{statement}
+use Rattle.clock.proofs.edges.Clock.new.Tie as tie
+
+in-range-requires : tie.Need-in-range-requires
+in-range-requires c κs = search needs
+
+returns : tie.Need-returns
+unfolding newClock
+returns c = simp (failed (c .before .in-range .ensures) (c .if1 .taken))
+
+is-lcd-requires : tie.Need-is-lcd-requires
+is-lcd-requires c κs = search needs
+
+returns-2 : tie.Need-returns-2
+unfolding newClock
+returns-2 c = simp (passed (c .before .before .before .in-range .ensures) (c .before .before .if1 .left), failed (c .before .is-lcd .ensures) (c .if2 .taken))
+
+start-requires : tie.Need-start-requires
+start-requires c κs = passed (c .before .is-lcd .ensures) (c .if2 .left)
+
+returns-3 : tie.Need-returns-3
+unfolding newClock
+returns-3 c = simp (passed (c .before .before .before .before .in-range .ensures) (c .before .before .before .if1 .left), passed (c .before .before .is-lcd .ensures) (c .before .if2 .left), c .start .ensures)
+
+pub new-spec : {M : Type 1} → statement M
+new-spec =
+    tie.close
+    (tie.spec in-range-requires returns is-lcd-requires returns-2 start-requires returns-3)

@@ -1,0 +1,4 @@
+pub mod Wide
+pub mod Time
+pub mod Rate
+pub mod Clock

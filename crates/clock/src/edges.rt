@@ -1,0 +1,268 @@
+// A running rational clock: its check, how many of its edges stand up to a moment, and the clock
+// moved forward by a number of edges. Document 01, 'Clock' and number 5 of its table.
+ghost use mathlib.Core.Path.{_≡_};
+ghost use mathlib.Core.Bool.{true};
+ghost use Prim.Native.Nat.{_+_, _*_, _^_, _<_, _≤_, min};
+ghost use Rattle.clock.specs.Rate.{isLcd};
+ghost use Rattle.clock.specs.Time.{raw, inRange};
+ghost use Rattle.clock.specs.Wide.{wideOf};
+ghost use Rattle.clock.specs.Clock.{position, started, isOfRate, validClock, checkClock, newClock, edgesTo, countEdges, movedBy, moveClock, passEdges};
+use crate::rate::Rate;
+use crate::time::Time;
+use crate::wide::Wide;
+use crate::wide::div;
+use crate::wide::high_of_difference;
+use crate::wide::mul_add;
+
+// `at` is the time of the last edge passed and `fraction` what it is later than that, in
+// 1 / denominator fraction units; `whole` and `remainder` are the period in the same units.
+pub struct Clock {
+    pub at: Time,
+    pub whole: Wide,
+    pub remainder: u64,
+    pub denominator: u64,
+    pub fraction: u64,
+    pub ordinal: u64,
+}
+
+// Why a call is turned down: `number` of specs/Clock.antt gives each its number.
+pub enum Refusal {
+    Time,
+    Rate,
+    Clock,
+}
+
+pub enum Check {
+    Passed,
+    Refused(Refusal),
+}
+
+pub enum Made {
+    Clock(Clock),
+    Refused(Refusal),
+}
+
+pub enum Edges {
+    Count(u64),
+    Refused(Refusal),
+}
+
+// How many edges were passed, and the clock moved by them.
+pub enum Passed {
+    Edges { count: u64, clock: Clock },
+    Refused(Refusal),
+}
+
+// The time and the part of a fraction unit above it as one number, in 1 / numerator fraction units.
+fn position_of(at: Time, fraction: u64, rate: Rate) -> Wide
+    requires { ⌜ inRange at ≡ true ⌝ }
+    requires { ⌜ isLcd rate ≡ true ⌝ }
+    requires { ⌜ fraction < rate .numerator ⌝ }
+    ensures { λ r. ⌜ r ≡ wideOf (raw at * rate .numerator + fraction) ⌝ }
+{
+    let words = Wide {
+        high: at.seconds,
+        low: at.fraction,
+    };
+    mul_add(words, rate.numerator, fraction)
+}
+
+fn smaller(a: u64, b: u64) -> u64
+    ensures { λ r. ⌜ r ≡ min a b ⌝ }
+{
+    if a <= b { a } else { b }
+}
+
+fn start(at: Time, rate: Rate) -> Clock
+    requires { ⌜ isLcd rate ≡ true ⌝ }
+    ensures { λ r. ⌜ r ≡ started at rate ⌝ }
+{
+    let one_second = Wide {
+        high: rate.denominator,
+        low: 0,
+    };
+    let q = div(one_second, rate.numerator);
+    let whole = q.quotient;
+    Clock {
+        at: at,
+        whole: whole,
+        remainder: q.remainder,
+        denominator: rate.numerator,
+        fraction: 0,
+        ordinal: 0,
+    }
+}
+
+impl Clock {
+    // A clock that starts at a moment.
+    pub fn new(at: Time, rate: Rate) -> Made
+        ensures { λ r. ⌜ r ≡ newClock at rate ⌝ }
+    {
+        if !at.in_range() {
+            return Made::Refused(Refusal::Time);
+        }
+        if !rate.is_lcd() {
+            return Made::Refused(Refusal::Rate);
+        }
+        Made::Clock(start(at, rate))
+    }
+
+    // Whether period and denominator are the rate's: a product tells it without a division.
+    fn is_of_rate(self, rate: Rate) -> bool
+        requires { ⌜ isLcd rate ≡ true ⌝ }
+        ensures { λ r. ⌜ r ≡ isOfRate rate self ⌝ }
+    {
+        let whole = self.whole;
+        if self.denominator != rate.numerator {
+            return false;
+        }
+        if self.remainder >= rate.numerator {
+            return false;
+        }
+        if whole.high != 0 {
+            return false;
+        }
+        let period = mul_add(whole, rate.numerator, self.remainder);
+        if period.high != rate.denominator {
+            return false;
+        }
+        period.low == 0
+    }
+
+    // Number 5 of document 01's table.
+    fn valid(self, rate: Rate) -> bool
+        requires { ⌜ isLcd rate ≡ true ⌝ }
+        ensures { λ r. ⌜ r ≡ validClock rate self ⌝ }
+    {
+        let at = self.at;
+        if !self.is_of_rate(rate) {
+            return false;
+        }
+        if self.fraction >= rate.numerator {
+            return false;
+        }
+        if !at.in_range() {
+            return false;
+        }
+        let position = position_of(at, self.fraction, rate);
+        self.ordinal <= position.high / rate.denominator
+    }
+
+    // Numbers 4 and 5.
+    pub fn check(self, rate: Rate) -> Check
+        ensures { λ r. ⌜ r ≡ checkClock rate self ⌝ }
+    {
+        if !rate.is_lcd() {
+            return Check::Refused(Refusal::Rate);
+        }
+        if !self.valid(rate) {
+            return Check::Refused(Refusal::Clock);
+        }
+        Check::Passed
+    }
+
+    // How many edges stand after the last one and not later than now.
+    fn count_to(self, rate: Rate, now: Time) -> u64
+        requires { ⌜ isLcd rate ≡ true ⌝ }
+        requires { ⌜ validClock rate self ≡ true ⌝ }
+        requires { ⌜ inRange now ≡ true ⌝ }
+        ensures { λ r. ⌜ r ≡ edgesTo rate self now ⌝ }
+    {
+        let at = self.at;
+        if now.lt(at) {
+            return 0;
+        }
+        // The last position that still belongs to now.
+        let end = position_of(now, rate.numerator - 1, rate);
+        let begin = position_of(at, self.fraction, rate);
+        high_of_difference(end, begin) / rate.denominator
+    }
+
+    pub fn edges_to(self, rate: Rate, now: Time) -> Edges
+        ensures { λ r. ⌜ r ≡ countEdges rate self now ⌝ }
+    {
+        if !now.in_range() {
+            return Edges::Refused(Refusal::Time);
+        }
+        if !rate.is_lcd() {
+            return Edges::Refused(Refusal::Rate);
+        }
+        if !self.valid(rate) {
+            return Edges::Refused(Refusal::Clock);
+        }
+        Edges::Count(self.count_to(rate, now))
+    }
+
+    // The clock moved by so few edges that its position has room in two words.
+    fn move_by(self, rate: Rate, edges: u64) -> Clock
+        requires { ⌜ isLcd rate ≡ true ⌝ }
+        requires { ⌜ validClock rate self ≡ true ⌝ }
+        requires { ⌜ edges ≤ 2 ^ 50 ⌝ }
+        ensures { λ r. ⌜ r ≡ movedBy rate self edges ⌝ }
+    {
+        let at = self.at;
+        let whole = self.whole;
+        let begin = position_of(at, self.fraction, rate);
+        let end = Wide {
+            high: begin.high + edges * rate.denominator,
+            low: begin.low,
+        };
+        let q = div(end, rate.numerator);
+        let last = q.quotient;
+        Clock {
+            at: Time {
+                seconds: last.high,
+                fraction: last.low,
+            },
+            whole: whole,
+            remainder: self.remainder,
+            denominator: self.denominator,
+            fraction: q.remainder,
+            ordinal: self.ordinal + edges,
+        }
+    }
+
+    // The clock moved forward by edges. One whose last edge would be out of range is refused as
+    // that time is.
+    pub fn moved(self, rate: Rate, edges: u64) -> Made
+        ensures { λ r. ⌜ r ≡ moveClock rate self edges ⌝ }
+    {
+        if !rate.is_lcd() {
+            return Made::Refused(Refusal::Rate);
+        }
+        if !self.valid(rate) {
+            return Made::Refused(Refusal::Clock);
+        }
+        // More edges than any range of times holds at any LCD rate.
+        if edges > 0x4_0000_0000_0000 {
+            return Made::Refused(Refusal::Time);
+        }
+        let clock = self.move_by(rate, edges);
+        let at = clock.at;
+        if !at.in_range() {
+            return Made::Refused(Refusal::Time);
+        }
+        Made::Clock(clock)
+    }
+
+    // The clock moved to the last edge not later than now, by limit edges at the most.
+    pub fn passed_to(self, rate: Rate, now: Time, limit: u64) -> Passed
+        ensures { λ r. ⌜ r ≡ passEdges rate self now limit ⌝ }
+    {
+        if !now.in_range() {
+            return Passed::Refused(Refusal::Time);
+        }
+        if !rate.is_lcd() {
+            return Passed::Refused(Refusal::Rate);
+        }
+        if !self.valid(rate) {
+            return Passed::Refused(Refusal::Clock);
+        }
+        let count = smaller(self.count_to(rate, now), limit);
+        let clock = self.move_by(rate, count);
+        Passed::Edges {
+            count: count,
+            clock: clock,
+        }
+    }
+}

@@ -1,0 +1,63 @@
+// Numbers of 128 bits as two words, and the two operations that the clock needs on them, each by
+// halves of 32 bits: a product with a short number, and a quotient by one.
+ghost use mathlib.Core.Path.{_≡_};
+ghost use Prim.Native.Nat.{_+_, _-_, _*_, _/_, _^_, _<_, _≤_};
+ghost use Rattle.clock.specs.Wide.{value, wideOf, divided};
+
+// high × 2^64 + low.
+pub struct Wide {
+    pub high: u64,
+    pub low: u64,
+}
+
+pub struct Quotient {
+    pub quotient: Wide,
+    pub remainder: u64,
+}
+
+// 2^32, the base of the halves.
+const HALF: u64 = 0x1_0000_0000;
+
+// w × m + c, where the high word has room for it.
+pub(crate) fn mul_add(w: Wide, m: u64, c: u64) -> Wide
+    requires { ⌜ w .high < 2 ^ 32 ⌝ }
+    requires { ⌜ m < 2 ^ 20 ⌝ }
+    requires { ⌜ c < 2 ^ 20 ⌝ }
+    ensures { λ r. ⌜ r ≡ wideOf (value w * m + c) ⌝ }
+{
+    let t = w.low % HALF * m + c;
+    let u = w.low / HALF * m + t / HALF;
+    Wide {
+        high: w.high * m + u / HALF,
+        low: u % HALF * HALF + t % HALF,
+    }
+}
+
+// w by d, from the high word down.
+pub(crate) fn div(w: Wide, d: u64) -> Quotient
+    requires { ⌜ 0 < d ⌝ }
+    requires { ⌜ d < 2 ^ 32 ⌝ }
+    ensures { λ r. ⌜ r ≡ divided (value w) d ⌝ }
+{
+    let t = w.high % d * HALF + w.low / HALF;
+    let u = t % d * HALF + w.low % HALF;
+    Quotient {
+        quotient: Wide {
+            high: w.high / d,
+            low: t / d * HALF + u / d,
+        },
+        remainder: u % d,
+    }
+}
+
+// The high word of a - b.
+pub(crate) fn high_of_difference(a: Wide, b: Wide) -> u64
+    requires { ⌜ value b ≤ value a ⌝ }
+    ensures { λ r. ⌜ r ≡ (value a - value b) / 2 ^ 64 ⌝ }
+{
+    if a.low < b.low {
+        a.high - b.high - 1
+    } else {
+        a.high - b.high
+    }
+}

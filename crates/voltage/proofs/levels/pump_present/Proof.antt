@@ -1,0 +1,23 @@
+-- `voltage::levels::pump_present` meets its contract. The temperature goes to `in_range` as bits, whose number is the
+-- temperature, since it fits.
+use borrow.Author.Needs.{needs}
+use Rattle.voltage.specs.Voltage.{pumpPresent}
+use mir.Facts.{toZ-ofZ}
+use mir.Syntax.{w32}
+use Rattle.voltage.proofs.levels.pump_present.Statement.{statement}
+use Rattle.voltage.proofs.levels.pump_present.Tie as tie
+
+has-bit-requires : tie.Need-has-bit-requires
+has-bit-requires c κs = search needs
+
+in-range-requires : tie.Need-in-range-requires
+in-range-requires c κs = search needs
+
+returns : tie.Need-returns
+unfolding pumpPresent
+returns c =
+    let back = toZ-ofZ {w = w32} {z = c .before .before .before .before .before .before .before .args .supply .«temperature_millicelsius»} (record { sfits = c .before .before .before .before .before .before .struct-told .given .1 .0 .1 }) in
+    simp (c .before .before .before .before .before .has-bit .ensures, c .before .before .in-range .ensures, back)
+
+pub pump-present-spec : {M : Type 1} → statement M
+pump-present-spec = tie.close (tie.spec has-bit-requires in-range-requires returns)
