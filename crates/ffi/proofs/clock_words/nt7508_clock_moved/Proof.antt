@@ -1,0 +1,20 @@
+-- `ffi::clock_words::nt7508_clock_moved` meets its contract.
+use borrow.Author.Needs.{needs}
+use Rattle.ffi.proofs.clock_words.nt7508_clock_moved.Statement.{statement}
+use Rattle.ffi.proofs.clock_words.nt7508_clock_moved.Tie as tie
+
+clock-of-requires : tie.Need-clock-of-requires
+clock-of-requires c κs = search needs
+
+moved-requires : tie.Need-moved-requires
+moved-requires c κs = search needs
+
+made-requires : tie.Need-made-requires
+made-requires c κs = search needs
+
+returns : tie.Need-returns
+returns c = (simp (c .made .ensures .0, c .before .before .moved .ensures, c .before .before .before .clock-of .ensures), simp (c .made .ensures .1, c .before .before .moved .ensures, c .before .before .before .clock-of .ensures))
+
+pub nt7508-clock-moved-spec : {M : Type 1} → statement M
+nt7508-clock-moved-spec =
+    tie.close (tie.spec clock-of-requires moved-requires made-requires returns)

@@ -1,0 +1,21 @@
+-- `ffi::voltage_words::nt7508_voltages` meets its contract.
+use mir.Facts.{toZ-ofZ}
+use borrow.Author.Needs.{needs}
+use Rattle.ffi.proofs.voltage_words.nt7508_voltages.Statement.{statement}
+use Rattle.ffi.proofs.voltage_words.nt7508_voltages.Tie as tie
+
+settings-of-requires : tie.Need-settings-of-requires
+settings-of-requires c κs = search needs
+
+voltages-requires : tie.Need-voltages-requires
+voltages-requires c κs = search needs
+
+put-requires : tie.Need-put-requires
+put-requires c κs = search needs
+
+returns : tie.Need-returns
+returns c = (simp (c .put .ensures .0, c .before .before .voltages .ensures, c .before .before .before .settings-of .ensures, toZ-ofZ (c .before .before .before .before .fits .temperature)), simp (c .put .ensures .1, c .before .before .voltages .ensures, c .before .before .before .settings-of .ensures, toZ-ofZ (c .before .before .before .before .fits .temperature)))
+
+pub nt7508-voltages-spec : {M : Type 1} → statement M
+nt7508-voltages-spec =
+    tie.close (tie.spec settings-of-requires voltages-requires put-requires returns)

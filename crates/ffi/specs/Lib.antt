@@ -1,0 +1,3 @@
+-- What crosses to callers in other languages, as words, in the terms of each layer.
+pub mod ClockWords
+pub mod VoltageWords

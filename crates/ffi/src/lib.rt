@@ -1,0 +1,5 @@
+// The layers of the display controller for callers in other languages: numbers and arrays of words
+// in and out, one module for each layer. A call that is turned down answers the number that
+// document 01's table gives and changes no lent array; any other answers 0.
+mod clock_words;
+mod voltage_words;

@@ -1,0 +1,2 @@
+-- What a list of cases says.
+pub mod Text

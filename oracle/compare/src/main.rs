@@ -1,0 +1,155 @@
+//! The driver of the oracle: see `usage`, or `oracle/run`, which calls it.
+mod any;
+mod cases;
+mod clock;
+mod compare;
+mod damaged;
+mod differences;
+mod findings;
+mod ours;
+mod paper;
+mod paper_checks;
+mod paper_scan;
+mod question;
+mod random;
+mod rates;
+mod scan;
+mod selfcheck;
+mod shrink;
+mod side;
+mod speed;
+mod state;
+mod voltage;
+
+use compare::Compare;
+use random::Random;
+use side::{Original, Side};
+use std::process::ExitCode;
+
+const USAGE: &str = "\
+compare selfcheck                       show that the oracle answers as document 01 says
+compare findings                        the surprises of the original, each by its smallest input
+compare differences                     where ours is meant to answer otherwise than the original
+compare fuzz [COUNT]                    damaged states that its validate accepts, run for panics
+compare clock SIDE [COUNT]              compare the clock; COUNT random rounds (1000000)
+compare voltage SIDE [ROUNDS]           compare the voltages; 33554432 settings a round (3)
+compare scan SIDE [COUNT]               compare scan, drive and image from COUNT states (20000)
+compare controller SIDE                 not yet
+compare cases clock|voltage [COUNT]     write a fixed list of the original's answers: some hundred,
+                                        and COUNT random ones (clock 2000, and as many boundaries;
+                                        voltage 4000)
+compare speed                           how long a call takes, the original and ours
+SIDE is ours (the proved libraries) or paper (document 01's rules, plainly written). With ours,
+numbers outside the limits are compared too: ours with the refusals of document 01's table.
+--seed N anywhere sets the seed of every random choice (default 7508).
+Exit: 0 no difference; 1 a difference, a panic, or nothing compared; 2 bad usage; 3 not joined yet.";
+
+const SEED: u64 = 7508;
+
+/// Random rounds of the clock, and rounds over all voltage settings.
+const CLOCKS: u64 = 1_000_000;
+const ROUNDS: u64 = 3;
+
+/// The words of the command without `--seed N`, and the seed.
+fn words() -> Option<(Vec<String>, u64)> {
+    let (mut words, mut seed) = (Vec::new(), SEED);
+    let mut all = std::env::args().skip(1);
+    while let Some(word) = all.next() {
+        if word == "--seed" {
+            seed = all.next()?.parse().ok()?;
+        } else {
+            words.push(word);
+        }
+    }
+    Some((words, seed))
+}
+
+/// A panic that no comparison caught is one of the driver's own, and said.
+fn main() -> ExitCode {
+    original::ask::quiet_panics();
+    original::ask::caught(command).unwrap_or_else(|words| {
+        println!("THE DRIVER ITSELF PANICS: {words}");
+        ExitCode::FAILURE
+    })
+}
+
+/// Does what the words of the command say.
+fn command() -> ExitCode {
+    let Some((words, seed)) = words() else {
+        return usage();
+    };
+    let mut words = words.iter().map(String::as_str);
+    let (first, second) = (words.next().unwrap_or(""), words.next());
+    let number = |word: Option<&str>| word.map(str::parse::<u64>).transpose();
+    match (first, second, number(words.next())) {
+        ("selfcheck", None, _) => code(selfcheck::run(seed)),
+        ("findings", None, _) => code(findings::run()),
+        ("differences", None, _) => code(differences::run()),
+        ("speed", None, _) => code(speed::run(seed)),
+        ("fuzz", count, _) => match number(count) {
+            Ok(count) => code(state::fuzz(seed, count.unwrap_or(200_000))),
+            Err(_) => usage(),
+        },
+        ("cases", Some("clock"), Ok(count)) => code(cases::clock(seed, count.unwrap_or(2000))),
+        ("cases", Some("voltage"), Ok(count)) => code(cases::voltage(seed, count.unwrap_or(4000))),
+        (layer @ ("clock" | "voltage" | "scan" | "controller"), Some(side), Ok(count)) => {
+            against(layer, side, count, seed)
+        }
+        _ => usage(),
+    }
+}
+
+fn usage() -> ExitCode {
+    eprintln!("{USAGE}");
+    ExitCode::from(2)
+}
+
+fn code(good: bool) -> ExitCode {
+    ExitCode::from(u8::from(!good))
+}
+
+/// Compares a layer with a side.
+fn against(layer: &str, side: &str, count: Option<u64>, seed: u64) -> ExitCode {
+    println!("seed {seed}");
+    let mut random = Random::new(seed);
+    match (layer, side) {
+        ("clock", "paper") => clock_with(paper::Paper, random, count),
+        ("voltage", "paper") => voltage_with(paper::Paper, random, count),
+        ("scan", "paper") => code(scan::run(&mut random, count.unwrap_or(20_000))),
+        ("clock", "ours") => {
+            let mut any = Compare::new(paper::Paper, ours::Ours);
+            damaged::clocks(&mut any, &mut random, count.unwrap_or(CLOCKS));
+            both(any.finish(), clock_with(ours::Ours, random, count))
+        }
+        ("voltage", "ours") => {
+            let mut any = Compare::new(paper::Paper, ours::Ours);
+            damaged::voltages(&mut any, &mut random, count.unwrap_or(ROUNDS) << 21);
+            both(any.finish(), voltage_with(ours::Ours, random, count))
+        }
+        (_, "paper" | "ours") => {
+            println!("original = {side}: {layer}: not joined yet, 0 inputs compared");
+            ExitCode::from(3)
+        }
+        _ => usage(),
+    }
+}
+
+fn both(good: bool, other: ExitCode) -> ExitCode {
+    if good {
+        other
+    } else {
+        ExitCode::FAILURE
+    }
+}
+
+fn clock_with(side: impl Side, mut random: Random, count: Option<u64>) -> ExitCode {
+    let mut compare = Compare::new(Original::new(), side);
+    clock::run(&mut compare, &mut random, count.unwrap_or(CLOCKS));
+    code(compare.finish())
+}
+
+fn voltage_with(side: impl Side, mut random: Random, rounds: Option<u64>) -> ExitCode {
+    let mut compare = Compare::new(Original::new(), side);
+    voltage::run(&mut compare, &mut random, rounds.unwrap_or(ROUNDS));
+    code(compare.finish())
+}
