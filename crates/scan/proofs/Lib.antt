@@ -1,0 +1,13 @@
+pub mod Checks
+pub mod Numbers
+pub mod Quanta
+pub mod Kept
+pub mod Counting
+pub mod Pieces
+pub mod Clocks
+pub mod Shades
+pub mod Latches
+pub mod Rows
+pub mod Images
+pub mod Runs
+pub mod Drives

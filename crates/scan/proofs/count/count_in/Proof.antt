@@ -1,0 +1,33 @@
+-- `scan::count::count_in` meets its contract.
+use native.Mathlib.Omega.{arith}
+use borrow.Author.Tests.{eq-eqb, ne-eqb}
+use borrow.Author.Needs.{needs}
+use Rattle.scan.proofs.Numbers.{mod-fits}
+use Rattle.scan.proofs.count.count_in.Statement.{statement}
+use Rattle.scan.proofs.count.count_in.Tie as tie
+
+returns : tie.Need-returns
+returns c = simp (eq-eqb _ _ (c .if1 .taken))
+
+wide-requires : tie.Need-wide-requires
+wide-requires c κs = search needs
+
+add-result : tie.Need-add-result
+add-result c = search needs
+
+wide-requires-2 : tie.Need-wide-requires-2
+wide-requires-2 c κs = search needs
+
+rem-result : tie.Need-rem-result
+rem-result c = search needs
+
+cast-result : tie.Need-cast-result
+cast-result c = record { fits = mod-fits _ _ (omega arith) (omega arith) }
+
+returns-2 : tie.Need-returns-2
+returns-2 c = simp (ne-eqb _ _ (c .before .before .if1 .left), c .before .wide .ensures, c .wide2 .ensures)
+
+pub count-in-spec : {M : Type 1} → statement M
+count-in-spec =
+    tie.close
+    (tie.spec returns wide-requires add-result wide-requires-2 rem-result cast-result returns-2)

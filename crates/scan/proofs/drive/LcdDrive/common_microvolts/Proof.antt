@@ -1,0 +1,44 @@
+-- `scan::drive::LcdDrive::common_microvolts` meets its contract.
+use mathlib.Core.Path.{_∙_}
+use borrow.Author.Tests.{lt-ltb, le-ltb}
+use borrow.Author.Needs.{needs}
+use Rattle.scan.specs.Drive.{commonWith, commonMicrovolts}
+use Rattle.scan.proofs.drive.LcdDrive.common_microvolts.Statement.{statement}
+use Rattle.scan.proofs.drive.LcdDrive.common_microvolts.Tie as tie
+
+returns : tie.Need-returns
+unfolding commonMicrovolts commonWith
+returns c = simp (lt-ltb _ _ (c .if1 .taken))
+
+returns-2 : tie.Need-returns-2
+unfolding commonMicrovolts commonWith
+returns-2 c = simp (le-ltb _ _ (c .before .if1 .left), c .if2 .taken)
+
+enum-known-selected : tie.Need-enum-known-selected
+enum-known-selected c = search needs
+
+enum-told : tie.Need-enum-told
+enum-told c = search needs
+
+returns-3 : tie.Need-returns-3
+unfolding commonMicrovolts commonWith
+returns-3 c = simp (le-ltb _ _ (c .before .before .before .if1 .left), c .before .before .if2 .left, c .enum-told .given .1)
+
+common-level-requires : tie.Need-common-level-requires
+common-level-requires c κs = search needs
+
+returns-4 : tie.Need-returns-4
+unfolding commonMicrovolts commonWith
+returns-4 c = c .common-level .ensures ∙ simp (le-ltb _ _ (c .before .before .before .before .before .before .if1 .left), c .before .before .before .before .before .if2 .left, c .before .before .before .selected .given .1)
+
+pub common-microvolts-spec : {M : Type 1} → statement M
+common-microvolts-spec =
+    tie.close
+    (tie.spec
+    returns
+    returns-2
+    enum-known-selected
+    enum-told
+    returns-3
+    common-level-requires
+    returns-4)

@@ -1,0 +1,100 @@
+-- The invariant: the first y rows are painted, the bytes after them as they were.
+use Prim.Native.Nat.{_+_, _-_, _*_, _≤_}
+use mathlib.Core.Path.{_≡_, _∙_}
+use mathlib.Core.List.{_++_}
+use native.Mathlib.Omega.{arith}
+use lib.ListN.{drop}
+use borrow.Author.Needs.{needs}
+use Rattle.scan.specs.Image.{rowsUpTo, imageRow}
+use Rattle.scan.proofs.Rows.{length-part, rows-none, rows-more, rows-all, length-rows-drop}
+use Rattle.scan.proofs.Images.{length-row}
+use Rattle.scan.proofs.image.paint.Statement.{statement}
+use Rattle.scan.proofs.image.paint.Tie as tie
+
+abbrev Inv-loop : tie.InvT-loop
+Inv-loop settings lit ram image₀ levels y₀ image y =
+    (y ≤ 64) × (image ≡ rowsUpTo (imageRow lit settings ram) y ++ drop (y * 96) image₀)
+
+abbrev μ-loop : tie.MeasureT-loop
+μ-loop settings lit ram image₀ levels y₀ image y = 64 - y
+
+levels-of-requires : tie.Need-levels-of-requires Inv-loop μ-loop
+levels-of-requires c κs = search needs
+
+loop-holds : tie.Need-loop-holds Inv-loop μ-loop
+loop-holds c =
+    let a = c .before .before .before .args in
+    (omega arith, rows-none (imageRow (a .lit) (a .settings) (a .ram .now)) (length-row (a .lit) (a .settings) (a .ram .now)) (a .image .now))
+
+mul-at : tie.Need-mul-at Inv-loop μ-loop
+mul-at c = omega arith
+
+cast-paint-row : tie.Need-cast-paint-row Inv-loop μ-loop
+cast-paint-row c = omega arith
+
+add-paint-row : tie.Need-add-paint-row Inv-loop μ-loop
+add-paint-row c = omega arith
+
+sub-paint-row : tie.Need-sub-paint-row Inv-loop μ-loop
+sub-paint-row c = omega arith
+
+part-paint-row-start : tie.Need-part-paint-row-start Inv-loop μ-loop
+part-paint-row-start c = omega arith
+
+part-paint-row-end : tie.Need-part-paint-row-end Inv-loop μ-loop
+part-paint-row-end c =
+    let a = c .before .before .before .before .before .args in
+    let l = c .before .loop in
+    omega (arith, length-rows-drop (imageRow (a .lit) (a .settings) (a .ram .now)) (length-row (a .lit) (a .settings) (a .ram .now)) (l .y) (a .image .now) (l .image) (l .inv .1) (omega arith))
+
+paint-row-requires : tie.Need-paint-row-requires Inv-loop μ-loop
+paint-row-requires c κs =
+    let a = c .before .before .before .before .before .before .args in
+    let l = c .before .before .loop in
+    let same = length-rows-drop (imageRow (a .lit) (a .settings) (a .ram .now)) (length-row (a .lit) (a .settings) (a .ram .now)) (l .y) (a .image .now) (l .image) (l .inv .1) (omega arith) in
+    (c .before .before .before .before .before .before .pre .0, (c .before .before .before .levels-of .ensures, (c .before .before .before .before .before .before .pre .1 .0, (c .before .loop-test .taken, length-part (l .image) (l .y * 96) 96 (omega arith)))))
+
+add-y : tie.Need-add-y Inv-loop μ-loop
+add-y c = omega arith
+
+loop-less : tie.Need-loop-less Inv-loop μ-loop
+loop-less c = omega arith
+
+loop-again : tie.Need-loop-again Inv-loop μ-loop
+loop-again c =
+    let a = c .before .before .before .before .before .before .before .before .before .args in
+    let l = c .before .before .before .before .before .loop in
+    let part = c .before .before .paint-row .last .1 .1 .1 .1 .1 .0 in
+    (omega arith, rows-more (imageRow (a .lit) (a .settings) (a .ram .now)) (length-row (a .lit) (a .settings) (a .ram .now)) (l .y) (a .image .now) (l .image) part (l .y * 96 + 96 - l .y * 96) (l .inv .1) (c .before .before .paint-row .ensures) (omega arith))
+
+same-length : tie.Need-same-length Inv-loop μ-loop
+same-length c =
+    let a = c .before .before .before .before .before .args in
+    let l = c .before .loop in
+    length-rows-drop (imageRow (a .lit) (a .settings) (a .ram .now)) (length-row (a .lit) (a .settings) (a .ram .now)) (l .y) (a .image .now) (l .image) (l .inv .1) (omega arith)
+
+returns : tie.Need-returns Inv-loop μ-loop
+returns c =
+    let a = c .before .before .before .before .before .args in
+    c .before .loop .inv .1 ∙ rows-all (imageRow (a .lit) (a .settings) (a .ram .now)) (length-row (a .lit) (a .settings) (a .ram .now)) (c .before .loop .y) 64 (a .image .now) (omega arith) (c .before .before .before .before .before .pre .1 .1)
+
+pub paint-spec : {M : Type 1} → statement M
+paint-spec =
+    tie.close
+    (tie.spec
+    Inv-loop
+    μ-loop
+    levels-of-requires
+    loop-holds
+    mul-at
+    cast-paint-row
+    add-paint-row
+    sub-paint-row
+    part-paint-row-start
+    part-paint-row-end
+    paint-row-requires
+    add-y
+    loop-less
+    loop-again
+    same-length
+    returns)

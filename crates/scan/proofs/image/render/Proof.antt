@@ -1,0 +1,68 @@
+-- `scan::image::render` meets its contract.
+use borrow.Author.Needs.{needs}
+use Rattle.clock.proofs.Tests.{failed, passed}
+use Rattle.scan.proofs.Images.{memory-ram, refused-memory, refused-image, refused-settings, passes, turned-down, shown}
+use Rattle.scan.proofs.image.render.Statement.{statement}
+use Rattle.scan.proofs.image.render.Tie as tie
+
+memory-ok-requires : tie.Need-memory-ok-requires
+memory-ok-requires c κs = search needs
+
+returns : tie.Need-returns
+returns c =
+    let a = c .before .before .before .before .before .args in
+    turned-down (a .settings) (a .ram .now) (a .icons .now) (a .image .now) (a .driven) (refused-memory (a .settings) (a .ram .now) (a .icons .now) (a .image .now) (failed (c .before .memory-ok .ensures) (c .if1 .taken)))
+
+mul-if2 : tie.Need-mul-if2
+mul-if2 c = search needs
+
+returns-2 : tie.Need-returns-2
+returns-2 c =
+    let a = c .before .before .before .before .before .before .args in
+    turned-down (a .settings) (a .ram .now) (a .icons .now) (a .image .now) (a .driven) (refused-image (a .settings) (a .ram .now) (a .icons .now) (a .image .now) (passed (c .before .before .memory-ok .ensures) (c .before .if1 .left)) (c .if2 .taken))
+
+valid-requires : tie.Need-valid-requires
+valid-requires c κs = search needs
+
+returns-3 : tie.Need-returns-3
+returns-3 c =
+    let a = c .before .before .before .before .before .before .before .before .args in
+    let memory = (passed (c .before .before .before .before .memory-ok .ensures) (c .before .before .before .if1 .left)) in
+    turned-down (a .settings) (a .ram .now) (a .icons .now) (a .image .now) (a .driven) (refused-settings (a .settings) (a .ram .now) (a .icons .now) (a .image .now) memory (c .before .before .if2 .left) (failed (c .before .valid .ensures) (c .if3 .taken)))
+
+lit-by-requires : tie.Need-lit-by-requires
+lit-by-requires c κs = search needs
+
+paint-requires : tie.Need-paint-requires
+paint-requires c κs =
+    let memory = c .before .before .before .before .before .before .memory-ok in
+    let kept = c .before .before .before .before .before .if1 in
+    let a = c .before .before .before .before .before .before .before .before .before .before .args in
+    (passed (c .before .before .before .valid .ensures) (c .before .before .if3 .left), (memory-ram (a .ram .now) (a .icons .now) (passed (memory .ensures) (kept .left)), c .before .before .before .before .if2 .left))
+
+same-length : tie.Need-same-length
+same-length c = search needs
+
+returns-4 : tie.Need-returns-4
+returns-4 c =
+    let lit = c .before .before .before .before .lit-by in
+    let sized = c .before .before .before .before .before .before .before .if2 in
+    let a = c .before .before .before .before .before .before .before .before .before .before .before .before .before .args in
+    let memory = (passed (c .before .before .before .before .before .before .before .before .before .memory-ok .ensures) (c .before .before .before .before .before .before .before .before .if1 .left)) in
+    let valid = passed (c .before .before .before .before .before .before .valid .ensures) (c .before .before .before .before .before .if3 .left) in
+    shown (a .settings) (a .ram .now) (a .icons .now) (a .image .now) (a .driven) (lit .result) _ (passes (a .settings) (a .ram .now) (a .icons .now) (a .image .now) memory (sized .left) valid) (lit .ensures) (c .before .before .paint .ensures)
+
+pub render-spec : {M : Type 1} → statement M
+render-spec =
+    tie.close
+    (tie.spec
+    memory-ok-requires
+    returns
+    mul-if2
+    returns-2
+    valid-requires
+    returns-3
+    lit-by-requires
+    paint-requires
+    same-length
+    returns-4)

@@ -1,0 +1,44 @@
+-- `scan::latch::pushed` meets its contract.
+use mathlib.Core.Path.{sym}
+use native.Mathlib.Omega.{arith}
+use borrow.Author.Needs.{needs}
+use Rattle.scan.proofs.Shades.{shade-lt}
+use Rattle.scan.proofs.latch.pushed.Statement.{statement}
+use Rattle.scan.proofs.latch.pushed.Tie as tie
+
+shade-requires : tie.Need-shade-requires
+shade-requires c κs = search needs
+
+cast-at : tie.Need-cast-at
+cast-at c = search needs
+
+array-read-if1 : tie.Need-array-read-if1
+array-read-if1 c = rw (c .shade .ensures) (shade-lt _ _ _ _)
+
+mul-result : tie.Need-mul-result
+mul-result c = search needs
+
+add-result : tie.Need-add-result
+add-result c = search needs
+
+mul-result-2 : tie.Need-mul-result-2
+mul-result-2 c = search needs
+
+returns : tie.Need-returns
+returns c = simp (sym (c .before .shade .ensures), c .if1 .taken) (omega arith)
+
+returns-2 : tie.Need-returns-2
+returns-2 c = simp (sym (c .before .shade .ensures), c .if1 .left) (omega arith)
+
+pub pushed-spec : {M : Type 1} → statement M
+pushed-spec =
+    tie.close
+    (tie.spec
+    shade-requires
+    cast-at
+    array-read-if1
+    mul-result
+    add-result
+    mul-result-2
+    returns
+    returns-2)

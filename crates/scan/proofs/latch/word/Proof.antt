@@ -1,0 +1,50 @@
+-- `scan::latch::word` meets its contract.
+use Prim.Native.Nat.{_+_, _-_, _≤_}
+use mathlib.Core.Path.{_≡_, refl, _∙_}
+use native.Mathlib.Omega.{arith}
+use Rattle.scan.specs.Latch.{rowActive, word as wordOf}
+use Rattle.scan.proofs.Latches.{word-more, word-fits, word-at}
+use Rattle.scan.proofs.latch.word.Statement.{statement}
+use Rattle.scan.proofs.latch.word.Tie as tie
+
+abbrev Inv-loop : tie.InvT-loop
+Inv-loop settings active part bit first word₀ left₀ word left = (left ≤ 64) × (word ≡ wordOf (rowActive active settings part bit) (first + left) (64 - left))
+
+abbrev μ-loop : tie.MeasureT-loop
+μ-loop settings active part bit first word₀ left₀ word left = left
+
+loop-holds : tie.Need-loop-holds Inv-loop μ-loop
+unfolding wordOf
+loop-holds c = (omega arith, refl)
+
+sub-left : tie.Need-sub-left Inv-loop μ-loop
+sub-left c = omega arith
+
+add-pushed : tie.Need-add-pushed Inv-loop μ-loop
+add-pushed c = omega arith
+
+pushed-requires : tie.Need-pushed-requires Inv-loop μ-loop
+pushed-requires c κs = (rw (c .before .loop .inv .1) (word-fits _ _ _ (omega arith)), (c .before .before .before .pre .0, (c .before .before .before .pre .1 .0, omega arith)))
+
+loop-less : tie.Need-loop-less Inv-loop μ-loop
+loop-less c = omega arith
+
+loop-again : tie.Need-loop-again Inv-loop μ-loop
+loop-again c = (omega arith, rw (c .pushed .ensures, c .before .before .loop .inv .1) (word-more (rowActive (c .before .before .before .before .args .active) (c .before .before .before .before .args .settings) (c .before .before .before .before .args .part .now) (c .before .before .before .before .args .bit)) _ _ _ _ (omega arith) (omega arith)))
+
+returns : tie.Need-returns Inv-loop μ-loop
+returns c = c .before .loop .inv .1 ∙ word-at (rowActive (c .before .before .before .args .active) (c .before .before .before .args .settings) (c .before .before .before .args .part .now) (c .before .before .before .args .bit)) (omega arith) (omega arith)
+
+pub word-spec : {M : Type 1} → statement M
+word-spec =
+    tie.close
+    (tie.spec
+    Inv-loop
+    μ-loop
+    loop-holds
+    sub-left
+    add-pushed
+    pushed-requires
+    loop-less
+    loop-again
+    returns)

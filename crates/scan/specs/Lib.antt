@@ -1,0 +1,10 @@
+pub mod Settings
+pub mod State
+pub mod Quantum
+pub mod Count
+pub mod Closed
+pub mod Shade
+pub mod Latch
+pub mod Image
+pub mod Run
+pub mod Drive

@@ -1,0 +1,215 @@
+// The gray image of the glass: each pixel's drive over a whole gray cycle, from 0 to 255, by the
+// present settings. A row is painted by itself, and the image is its 64 rows.
+ghost use mathlib.Core.Path.{_≡_};
+ghost use mathlib.Core.Bool.{true};
+ghost use Prim.Native.Nat.{_<_};
+ghost use lib.ListN.{length};
+ghost use Rattle.scan.specs.Settings.{validSettings, frcCountOf};
+ghost use Rattle.scan.specs.Image.{litBy, period, widths, levelOf, levelsOf, glassCommon, lineOf, ramRowOf, levelAt, dark, upTo, imageRow, rowsUpTo, checkImage, rendered};
+use crate::settings::Settings;
+use crate::settings::frc_count_of;
+use crate::settings::pwm_of;
+use crate::shade::pulse_width;
+use crate::shade::shade;
+use crate::state::Check;
+use crate::state::Refusal;
+use crate::state::memory_ok;
+
+pub const LCD_WIDTH: usize = 96;
+
+pub const LCD_HEIGHT: usize = 64;
+
+// Whether the glass shows anything.
+pub(crate) fn lit_by(driven: bool, settings: Settings) -> bool
+    ensures { λ r. ⌜ r ≡ litBy driven settings ⌝ }
+{
+    if driven {
+        return settings.oscillator_control % 2 == 0;
+    }
+    false
+}
+
+// A shade's widths, summed over the phases of the gray cycle.
+fn width_sum(settings: Settings, shade: u8) -> u16
+    requires { ⌜ shade < 4 ⌝ }
+    ensures { λ r. ⌜ r ≡ widths settings shade (frcCountOf (settings .«gray_mode»)) ⌝ }
+{
+    let pwm = pwm_of(settings.gray_mode);
+    let phases = frc_count_of(settings.gray_mode);
+    let mut sum: u16 = 0;
+    let mut phase: u8 = 0;
+    while phase < phases {
+        sum += pulse_width(settings, shade, phase, pwm) as u16;
+        phase += 1;
+    }
+    sum
+}
+
+// The quanta of a row in a whole gray cycle.
+fn period_of(settings: Settings) -> u16
+    ensures { λ r. ⌜ r ≡ period settings ⌝ }
+{
+    let pwm = pwm_of(settings.gray_mode) as u16;
+    let phases = frc_count_of(settings.gray_mode) as u16;
+    pwm * phases
+}
+
+// The mean drive of a shade, rounded to the nearest.
+fn level_of(settings: Settings, shade: u8) -> u8
+    requires { ⌜ shade < 4 ⌝ }
+    ensures { λ r. ⌜ r ≡ levelOf settings shade ⌝ }
+{
+    let period = period_of(settings);
+    let sum = width_sum(settings, shade);
+    ((255 * sum + period / 2) / period) as u8
+}
+
+// The levels of the four shades: worked out once for all pixels.
+pub(crate) fn levels_of(settings: Settings) -> [u8; 4]
+    ensures { λ r. ⌜ r ≡ levelsOf settings ⌝ }
+{
+    [
+        level_of(settings, 0),
+        level_of(settings, 1),
+        level_of(settings, 2),
+        level_of(settings, 3),
+    ]
+}
+
+// The common of a glass row.
+fn glass_common(reversed: bool, y: u8) -> u8
+    requires { ⌜ y < 64 ⌝ }
+    ensures { λ r. ⌜ r ≡ glassCommon reversed y ⌝ }
+{
+    if reversed {
+        return 95 - y;
+    }
+    32 + y
+}
+
+// The line of the scan that drives a glass row.
+fn line_of(settings: Settings, y: u8) -> u8
+    requires { ⌜ y < 64 ⌝ }
+    requires { ⌜ settings .«initial_com» < 128 ⌝ }
+    ensures { λ r. ⌜ r ≡ lineOf settings y ⌝ }
+    ensures { λ r. ⌜ r < 128 ⌝ }
+{
+    let common = glass_common(settings.common_reverse, y);
+    (common + (128 - settings.initial_com)) % 128
+}
+
+// The row of RAM that a line shows.
+fn ram_row_of(settings: Settings, line: u8) -> u8
+    requires { ⌜ line < 128 ⌝ }
+    requires { ⌜ settings .«start_line» < 128 ⌝ }
+    ensures { λ r. ⌜ r ≡ ramRowOf settings line ⌝ }
+    ensures { λ r. ⌜ r < 128 ⌝ }
+{
+    (line + settings.start_line) % 128
+}
+
+// A row that shows nothing.
+fn clear_row(row: &mut [u8])
+    requires { ⌜ length (now row) ≡ 96 ⌝ }
+    ensures { λ _. ⌜ now (row .exit) ≡ upTo dark 96 ⌝ }
+{
+    let mut x = 0;
+    while x < LCD_WIDTH {
+        row[x] = 0;
+        x += 1;
+    }
+}
+
+// The row that stands at `bit` of the 256 bytes of its page.
+fn paint_page(settings: Settings, levels: [u8; 4], page: &[u8], bit: u8, row: &mut [u8])
+    requires { ⌜ levels ≡ levelsOf settings ⌝ }
+    requires { ⌜ length (now page) ≡ 256 ⌝ }
+    requires { ⌜ bit < 8 ⌝ }
+    requires { ⌜ length (now row) ≡ 96 ⌝ }
+    ensures { λ _. ⌜ now (row .exit) ≡ upTo (levelAt settings (now (page .entry)) bit) 96 ⌝ }
+{
+    let mut x = 0;
+    while x < LCD_WIDTH {
+        let shade = shade(settings, page, bit, x as u8) as usize;
+        row[x] = levels[shade];
+        x += 1;
+    }
+}
+
+// One glass row.
+pub(crate) fn paint_row(
+    settings: Settings,
+    lit: bool,
+    levels: [u8; 4],
+    ram: &[u8],
+    y: u8,
+    row: &mut [u8],
+)
+    requires { ⌜ validSettings settings ≡ true ⌝ }
+    requires { ⌜ levels ≡ levelsOf settings ⌝ }
+    requires { ⌜ length (now ram) ≡ 4096 ⌝ }
+    requires { ⌜ y < 64 ⌝ }
+    requires { ⌜ length (now row) ≡ 96 ⌝ }
+    ensures { λ _. ⌜ now (row .exit) ≡ imageRow lit settings (now (ram .entry)) y ⌝ }
+{
+    if !lit {
+        clear_row(row);
+        return;
+    }
+    let line = line_of(settings, y);
+    if line >= settings.duty {
+        clear_row(row);
+        return;
+    }
+    let shown = ram_row_of(settings, line);
+    let page = (shown / 8) as usize;
+    paint_page(
+        settings,
+        levels,
+        &ram[page * 256..page * 256 + 256],
+        shown % 8,
+        row,
+    );
+}
+
+// All glass rows.
+fn paint(settings: Settings, lit: bool, ram: &[u8], image: &mut [u8])
+    requires { ⌜ validSettings settings ≡ true ⌝ }
+    requires { ⌜ length (now ram) ≡ 4096 ⌝ }
+    requires { ⌜ length (now image) ≡ 6144 ⌝ }
+    ensures { λ _. ⌜ now (image .exit) ≡ rowsUpTo (imageRow lit settings (now (ram .entry))) 64 ⌝ }
+{
+    let levels = levels_of(settings);
+    let mut y = 0;
+    while y < LCD_HEIGHT {
+        let at = y * LCD_WIDTH;
+        paint_row(
+            settings,
+            lit,
+            levels,
+            ram,
+            y as u8,
+            &mut image[at..at + LCD_WIDTH],
+        );
+        y += 1;
+    }
+}
+
+// The whole image into 6,144 lent bytes.
+pub fn render(settings: Settings, driven: bool, ram: &[u8], icons: &[u8], image: &mut [u8]) -> Check
+    ensures { λ r. ⌜ r ≡ checkImage settings (now (ram .entry)) (now (icons .entry)) (now (image .entry)) ⌝ }
+    ensures { λ _. ⌜ now (image .exit) ≡ rendered driven settings (now (ram .entry)) (now (icons .entry)) (now (image .entry)) ⌝ }
+{
+    if !memory_ok(ram, icons) {
+        return Check::Refused(Refusal::Memory);
+    }
+    if image.len() != LCD_WIDTH * LCD_HEIGHT {
+        return Check::Refused(Refusal::Image);
+    }
+    if !settings.valid() {
+        return Check::Refused(Refusal::Settings);
+    }
+    let lit = lit_by(driven, settings);
+    paint(settings, lit, ram, image);
+    Check::Passed
+}

@@ -1,0 +1,27 @@
+// The scan of the LCD: its settings and counters, counting by quanta, the output latch, the drive of
+// the electrodes and the gray image. Document 01, 'Scan' and 'Drive, electrodes, image'.
+mod count;
+pub mod drive;
+mod image;
+mod latch;
+mod run;
+mod settings;
+mod shade;
+mod state;
+
+pub use count::Counted;
+pub use drive::Common;
+pub use drive::Conditions;
+pub use drive::Driven;
+pub use drive::Electrode;
+pub use drive::LcdDrive;
+pub use image::LCD_HEIGHT;
+pub use image::LCD_WIDTH;
+pub use image::render;
+pub use latch::DataPage;
+pub use settings::Settings;
+pub use state::Changed;
+pub use state::Check;
+pub use state::Refusal;
+pub use state::Scan;
+pub use state::ScanClock;
