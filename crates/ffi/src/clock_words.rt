@@ -14,7 +14,7 @@ use clock::Refusal;
 use clock::Time;
 use clock::Wide;
 
-fn clock_of(words: &[u64; 8]) -> Clock
+pub(crate) fn clock_of(words: &[u64; 8]) -> Clock
     ensures { λ r. ⌜ r ≡ clockOf (now (words .entry)) ⌝ }
 {
     Clock {
@@ -33,7 +33,7 @@ fn clock_of(words: &[u64; 8]) -> Clock
     }
 }
 
-fn words_of(clock: Clock) -> [u64; 8]
+pub(crate) fn words_of(clock: Clock) -> [u64; 8]
     ensures { λ r. ⌜ r ≡ clockWords clock ⌝ }
 {
     let at = clock.at;

@@ -2,4 +2,6 @@
 // in and out, one module for each layer. A call that is turned down answers the number that
 // document 01's table gives and changes no lent array; any other answers 0.
 mod clock_words;
+pub mod drive_words;
+pub mod scan_words;
 mod voltage_words;

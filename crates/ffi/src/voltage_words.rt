@@ -13,7 +13,7 @@ use voltage::Settings;
 use voltage::Supply;
 use voltage::finder::Found;
 
-fn settings_of(bytes: &[u8; 8]) -> Settings
+pub(crate) fn settings_of(bytes: &[u8; 8]) -> Settings
     ensures { λ r. ⌜ r ≡ settingsOf (now (bytes .entry)) ⌝ }
 {
     Settings {
@@ -38,7 +38,7 @@ fn word_of(level: Level) -> u64
     }
 }
 
-fn words_of(voltages: LcdVoltages) -> [u64; 7]
+pub(crate) fn words_of(voltages: LcdVoltages) -> [u64; 7]
     ensures { λ r. ⌜ r ≡ voltageWords voltages ⌝ }
 {
     let pump = voltages.pump;

@@ -19,14 +19,14 @@ use std::fmt::Write;
 /// An absent voltage: one more than the largest present one.
 const ABSENT: u64 = 1 << 32;
 
-struct List {
+pub struct List {
     original: Original,
     body: String,
     count: u64,
 }
 
 impl List {
-    fn new() -> Self {
+    pub fn new() -> Self {
         Self {
             original: Original::new(),
             body: String::new(),
@@ -42,13 +42,13 @@ impl List {
         }
         answer.ok()
     }
-    fn line(&mut self, numbers: &[u64]) {
+    pub fn line(&mut self, numbers: &[u64]) {
         let words: Vec<String> = numbers.iter().map(u64::to_string).collect();
         self.body.push_str(&words.join(" "));
         self.body.push('\n');
         self.count += 1;
     }
-    fn print(self, head: &str) -> bool {
+    pub fn print(self, head: &str) -> bool {
         let mut text = String::new();
         for line in head.lines() {
             writeln!(text, "# {line}").expect("a string takes every line");

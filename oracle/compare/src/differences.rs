@@ -1,16 +1,19 @@
-//! Where ours is meant to answer otherwise than the original, for the clock and
-//! the voltages: each by its smallest input, run again on both sides, so that
+//! Where ours is meant to answer otherwise than the original, for the clock,
+//! the voltages and the scan: each by its smallest input, run again on both sides, so that
 //! the list in docs/DIFFERENCES.md cannot go stale. All of these inputs fail
 //! document 01's checks, which ours makes at each call.
 use crate::{
     any::{Checked, Refused},
+    chip::Chip,
     findings::outcome,
     ours::Ours,
+    ours_scan::{self, Lent},
     side::{ClockState, END},
     voltage::plain,
 };
 use original::ask::{
     clock::{self, Parts},
+    controller::Controller,
     voltage::{Bench, Question},
 };
 use std::fmt::Debug;
@@ -164,9 +167,87 @@ fn voltages() -> Vec<Difference> {
     ]
 }
 
+/// Power-on with its scan running from 0, changed, and driven at a moment.
+fn driven(
+    input: &'static str,
+    change: impl FnOnce(&mut Chip),
+    now: u128,
+    recorded: Recorded,
+) -> Difference {
+    let mut chip = Chip::of(&Controller::new());
+    chip.put_clock(Some(ClockState {
+        at: 0,
+        p: 129_024,
+        q: 1,
+        fraction: 0,
+        ordinal: 0,
+    }));
+    (chip.display_on, chip.oscillator_enabled) = (true, true);
+    change(&mut chip);
+    let (ram, icons) = ([0; 4096], [0; 256]);
+    let state = chip.state(&ram, &icons);
+    let lent = Lent {
+        ram: &ram,
+        icons: &icons,
+    };
+    let ours = match ours_scan::drive(&chip, now, lent, &mut [0; 12]) {
+        0 => Ok(()),
+        number => Err(number),
+    };
+    differs(
+        input,
+        || state.drive(now).map(|drive| drive.common),
+        ours,
+        recorded,
+    )
+}
+
+fn scans() -> Vec<Difference> {
+    let second = 1 << 64;
+    vec![
+        driven("drive: at 2^32 s", |_| (), END, ("Ok(Some(0))", 1)),
+        driven(
+            "drive: scan's rate 1/1, no LCD rate",
+            |chip| (chip.words[9], chip.words[10]) = (1, 1),
+            second,
+            ("Ok(Some(0))", 4),
+        ),
+        driven(
+            "drive: ordinal 1 at 0",
+            |chip| chip.words[8] = 1,
+            second,
+            ("Ok(Some(0))", 5),
+        ),
+        driven(
+            "drive: clock of another rate than the scan's",
+            |chip| chip.words[9] = 128_016,
+            second,
+            ("Ok(Some(0))", 5),
+        ),
+        driven(
+            "drive: fraction p",
+            |chip| chip.words[7] = 129_024,
+            second,
+            ("Ok(Some(127))", 5),
+        ),
+        driven(
+            "drive: scan's row 129",
+            |chip| chip.bytes[7] = 129,
+            0,
+            ("Ok(Some(1))", 4),
+        ),
+        driven(
+            "drive: gray mode 8",
+            |chip| chip.settings[9] = 8,
+            second,
+            ("Ok(Some(0))", 3),
+        ),
+    ]
+}
+
 pub fn run() -> bool {
     let mut good = true;
-    for difference in clocks().into_iter().chain(voltages()) {
+    for difference in clocks().into_iter().chain(voltages()).chain(scans()) {
         let Difference {
             input,
             original,

@@ -1,12 +1,15 @@
 //! The driver of the oracle: see `usage`, or `oracle/run`, which calls it.
 mod any;
 mod cases;
+mod cases_scan;
+mod chip;
 mod clock;
 mod compare;
 mod damaged;
 mod differences;
 mod findings;
 mod ours;
+mod ours_scan;
 mod paper;
 mod paper_checks;
 mod paper_scan;
@@ -14,11 +17,14 @@ mod question;
 mod random;
 mod rates;
 mod scan;
+mod scan_damaged;
+mod scan_ours;
 mod selfcheck;
 mod shrink;
 mod side;
 mod speed;
 mod state;
+mod valid;
 mod voltage;
 
 use compare::Compare;
@@ -33,11 +39,13 @@ compare differences                     where ours is meant to answer otherwise 
 compare fuzz [COUNT]                    damaged states that its validate accepts, run for panics
 compare clock SIDE [COUNT]              compare the clock; COUNT random rounds (1000000)
 compare voltage SIDE [ROUNDS]           compare the voltages; 33554432 settings a round (3)
-compare scan SIDE [COUNT]               compare scan, drive and image from COUNT states (20000)
+compare scan SIDE [COUNT]               compare scan, drive and image from COUNT states (paper 20000;
+                                        ours 200000, a tenth of them more by calls)
 compare controller SIDE                 not yet
-compare cases clock|voltage [COUNT]     write a fixed list of the original's answers: some hundred,
+compare cases clock|voltage|scan [COUNT]
+                                        write a fixed list of the original's answers: some hundred,
                                         and COUNT random ones (clock 2000, and as many boundaries;
-                                        voltage 4000)
+                                        voltage 4000; scan 900)
 compare speed                           how long a call takes, the original and ours
 SIDE is ours (the proved libraries) or paper (document 01's rules, plainly written). With ours,
 numbers outside the limits are compared too: ours with the refusals of document 01's table.
@@ -49,6 +57,9 @@ const SEED: u64 = 7508;
 /// Random rounds of the clock, and rounds over all voltage settings.
 const CLOCKS: u64 = 1_000_000;
 const ROUNDS: u64 = 3;
+
+/// Valid states of the scan layer.
+const STATES: u64 = 200_000;
 
 /// The words of the command without `--seed N`, and the seed.
 fn words() -> Option<(Vec<String>, u64)> {
@@ -92,6 +103,7 @@ fn command() -> ExitCode {
         },
         ("cases", Some("clock"), Ok(count)) => code(cases::clock(seed, count.unwrap_or(2000))),
         ("cases", Some("voltage"), Ok(count)) => code(cases::voltage(seed, count.unwrap_or(4000))),
+        ("cases", Some("scan"), Ok(count)) => code(cases_scan::scan(seed, count.unwrap_or(900))),
         (layer @ ("clock" | "voltage" | "scan" | "controller"), Some(side), Ok(count)) => {
             against(layer, side, count, seed)
         }
@@ -125,6 +137,11 @@ fn against(layer: &str, side: &str, count: Option<u64>, seed: u64) -> ExitCode {
             let mut any = Compare::new(paper::Paper, ours::Ours);
             damaged::voltages(&mut any, &mut random, count.unwrap_or(ROUNDS) << 21);
             both(any.finish(), voltage_with(ours::Ours, random, count))
+        }
+        ("scan", "ours") => {
+            let count = count.unwrap_or(STATES);
+            let refusals = scan_damaged::run(&mut random, count);
+            both(refusals, code(scan_ours::run(&mut random, count)))
         }
         (_, "paper" | "ours") => {
             println!("original = {side}: {layer}: not joined yet, 0 inputs compared");

@@ -126,7 +126,7 @@ pub fn clock_words(parts: &Parts) -> [u64; 8] {
     ]
 }
 
-fn parts(words: &[u64; 8]) -> Parts {
+pub fn parts(words: &[u64; 8]) -> Parts {
     Parts {
         at: wide(words[0], words[1]),
         whole: wide(words[2], words[3]),

@@ -2,6 +2,7 @@
 //! finder, plainly written. Checks run in the table's order.
 use crate::{
     any::{Checked, Pair, Refused},
+    chip::Chip,
     paper::{edge, target_at, Paper},
     rates::RATES,
     side::{ClockState, Side, END},
@@ -12,7 +13,7 @@ use original::{
 };
 
 /// Number 1: 2^32 s or later.
-fn time(at: u128) -> Refused<()> {
+pub fn time(at: u128) -> Refused<()> {
     (at < END).then_some(()).ok_or(1)
 }
 
@@ -45,7 +46,7 @@ fn clock(clock: &Parts, p: u64, q: u64) -> Refused<ClockState> {
 }
 
 /// Number 3, of the settings that the voltages read.
-fn settings(settings: [u8; 8]) -> Refused<()> {
+pub fn settings(settings: [u8; 8]) -> Refused<()> {
     let [contrast, regulator, power, booster, bias, slope, trim, otp] = settings;
     let good = contrast < 64
         && regulator < 8
@@ -123,4 +124,47 @@ impl Checked for Paper {
             pairs.any(|pair| (band.0..=band.1).contains(&target_at(bytes, temperature, pair)));
         Ok(if fits { Pair::Fits } else { Pair::None })
     }
+}
+
+/// Number 3, of the settings that the scan reads.
+pub fn scan_settings(settings: &[u8; 20]) -> Refused<()> {
+    let [start, _, _, _, _, _, first, duty, lines, gray, ..] = *settings;
+    let good = start < 128
+        && first < 128
+        && (16..=128).contains(&duty)
+        && (lines == 0 || (3..=33).contains(&lines))
+        && gray < 8
+        && settings[18] < 4
+        && settings[19] < 32;
+    good.then_some(()).ok_or(3)
+}
+
+/// Numbers 4 and 5 of a scan.
+pub fn scan(words: &[u64; 13], bytes: &[u8; 14]) -> Refused<()> {
+    let [duty, icon, first, _, start, pwm, phases, row, step, phase, lines, count, _, _] = *bytes;
+    let rows = u16::from(duty) + u16::from(icon != 0);
+    let good = RATES.contains(&(words[9], words[10]))
+        && (16..=128).contains(&duty)
+        && first < 128
+        && start < 128
+        && [9, 12, 15].contains(&pwm)
+        && step < pwm
+        && [3, 4].contains(&phases)
+        && phase < phases
+        && u16::from(row) < rows
+        && (lines == 0 || (3..=33).contains(&lines))
+        && (lines == 0 || count < lines);
+    good.then_some(()).ok_or(4u64)?;
+    if words[0] == 0 {
+        return Ok(());
+    }
+    let parts = crate::ours::parts(words[1..9].try_into().expect("eight words"));
+    clock(&parts, words[9], words[10]).map(|_| ())
+}
+
+/// Whether no check turns the state of a scan layer down.
+pub fn accepted(chip: &Chip) -> bool {
+    scan_settings(&chip.settings).is_ok()
+        && settings(chip.analog).is_ok()
+        && scan(&chip.words, &chip.bytes).is_ok()
 }

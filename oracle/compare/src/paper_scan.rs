@@ -135,6 +135,29 @@ impl Scan {
             self.row_end(present);
         }
     }
+    /// Whether the next edge is not later than `now`.
+    fn due(&self, now: u128) -> bool {
+        self.clock
+            .is_some_and(|clock| paper::edge(&clock, 1).0 <= now)
+    }
+    /// A quantum, at the next edge of the clock, which runs.
+    fn tick(&mut self, present: &Present) {
+        let Some(clock) = self.clock else { return };
+        let moved = Paper.advance(&clock, 1);
+        self.quantum(present);
+        let (p, q) = present.rate(self.rows());
+        self.clock = Some(moved);
+        if (p, q) != self.rate {
+            self.rate = (p, q);
+            self.clock = Some(ClockState {
+                at: moved.at,
+                p,
+                q,
+                fraction: 0,
+                ordinal: 0,
+            });
+        }
+    }
     fn row_end(&mut self, present: &Present) {
         self.row += 1;
         let frame_end = self.row == self.rows();
@@ -188,36 +211,41 @@ pub fn counted(state: &Controller, now: u128) -> Counted {
     let present = Present::of(state);
     let mut scan = held(state);
     let (mut quanta, mut pieces, mut left) = (0, 0, 0);
-    while let Some(clock) = scan.clock {
-        if paper::edge(&clock, 1).0 > now {
-            break;
-        }
+    while scan.due(now) {
         if left == 0 {
             left = piece(&scan, &present);
             pieces += 1;
         }
         left -= 1;
         quanta += 1;
-        let moved = Paper.advance(&clock, 1);
-        scan.quantum(&present);
-        let (p, q) = present.rate(scan.rows());
-        scan.clock = Some(moved);
-        if (p, q) != scan.rate {
-            scan.rate = (p, q);
-            scan.clock = Some(ClockState {
-                at: moved.at,
-                p,
-                q,
-                fraction: 0,
-                ordinal: 0,
-            });
-        }
+        scan.tick(&present);
     }
     Counted {
         scan,
         quanta,
         pieces,
     }
+}
+
+/// The uses of the piece rule up to `now`. Once it allows all quanta, the edges
+/// that are left are one piece more, so that no more need be counted.
+pub fn pieces(state: &Controller, now: u128) -> u64 {
+    let present = Present::of(state);
+    let mut scan = held(state);
+    let mut pieces = 0;
+    while scan.due(now) {
+        pieces += 1;
+        let left = piece(&scan, &present);
+        if left == u64::MAX {
+            break;
+        }
+        for _ in 0..left {
+            if scan.due(now) {
+                scan.tick(&present);
+            }
+        }
+    }
+    pieces
 }
 
 /// The shade of a segment in a row of RAM, or of the icons as row 128.

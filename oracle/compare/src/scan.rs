@@ -1,7 +1,7 @@
 //! The scan, the drive and the image of the original against document 01's
 //! rules, one quantum at a time. The states are reached by calls, with
-//! settings changed on the way, so that all four kinds of piece come up. When
-//! our scan exists it is asked the same here.
+//! settings changed on the way, so that all four kinds of piece come up. Ours is
+//! asked in `scan_ours.rs`.
 use crate::{
     paper_scan::{counted, drive, held, render},
     random::Random,

@@ -2,10 +2,13 @@
 //! original alone where ours is not joined. Inputs are made beforehand, fields
 //! of clocks and settings of controllers too, so that only the calls are timed.
 use crate::{
+    chip::Chip,
     clock::{random_clock, random_edges, random_moment},
     ours::{clock_words, raw, words},
+    ours_scan::{self, Lent},
     random::Random,
-    side::ClockState,
+    side::{ClockState, END},
+    valid,
     voltage::{cornered, random_settings, temperatures},
 };
 use original::ask::{
@@ -15,9 +18,9 @@ use original::ask::{
 };
 use std::{hint::black_box, time::Instant};
 
-/// Nanoseconds a call, over 20 million calls.
-fn nanoseconds<Q, T>(questions: &[Q], mut call: impl FnMut(&Q) -> T) -> f64 {
-    let rounds = 20_000_000 / questions.len();
+/// Nanoseconds a call, over so many calls.
+fn nanoseconds<Q, T>(calls: usize, questions: &[Q], mut call: impl FnMut(&Q) -> T) -> f64 {
+    let rounds = calls / questions.len();
     let start = Instant::now();
     for _ in 0..rounds {
         for question in questions {
@@ -36,9 +39,12 @@ fn both<Q, T, U>(
     mut ours: impl FnMut(&Q) -> U,
 ) {
     let (mut first, mut second) = (f64::MAX, f64::MAX);
+    // As many calls as take the original some half a second.
+    let once = nanoseconds(2 * questions.len(), questions, &mut original);
+    let calls = ((5e8 / once) as usize).clamp(questions.len(), 20_000_000);
     for _ in 0..5 {
-        first = first.min(nanoseconds(questions, &mut original));
-        second = second.min(nanoseconds(questions, &mut ours));
+        first = first.min(nanoseconds(calls, questions, &mut original));
+        second = second.min(nanoseconds(calls, questions, &mut ours));
     }
     println!("{name:24} {first:8.1} {second:8.1}");
 }
@@ -120,6 +126,78 @@ fn voltages(random: &mut Random) {
     );
 }
 
+/// A state of the scan layer as both sides hold it, and a moment.
+struct Scanned {
+    state: Controller,
+    chip: Chip,
+    now: u128,
+}
+
+/// 64 driven states, a second after their last edge, so that drives, images and
+/// counts have all their work to do.
+fn scanned(random: &mut Random) -> Vec<Scanned> {
+    let mut all = Vec::new();
+    while all.len() < 64 {
+        let chip = valid::chip(random);
+        let (ram, icons) = valid::memory(random);
+        let now = chip.clock().map_or(0, |clock| clock.at + (1 << 64));
+        if chip.driven() && chip.settings[18] & 1 == 0 && 0 < now && now < END {
+            let state = chip.state(&ram, &icons);
+            all.push(Scanned { state, chip, now });
+        }
+    }
+    all
+}
+
+/// Ours checks memory, time, settings, scan and clock at each call. The
+/// original's count is a fall of the supply on a copy of its state, 4,448 bytes.
+fn scans(random: &mut Random) {
+    let states = scanned(random);
+    let lent = |at: &'_ Scanned| (at.state.ram().to_vec(), at.state.icons().to_vec());
+    let memory: Vec<_> = states.iter().map(lent).collect();
+    let all: Vec<_> = memory
+        .iter()
+        .map(|(ram, icons)| Lent { ram, icons })
+        .zip(&states)
+        .collect();
+    let mut out = [0; 12];
+    both(
+        "drive a second on",
+        &all,
+        |(_, at)| at.state.drive(at.now),
+        |(lent, at)| (ours_scan::drive(&at.chip, at.now, *lent, &mut out), out),
+    );
+    both(
+        "drive at the last edge",
+        &all,
+        |(_, at)| at.state.drive(at.now - (1 << 64)),
+        |(lent, at)| {
+            let now = at.now - (1 << 64);
+            (ours_scan::drive(&at.chip, now, *lent, &mut out), out)
+        },
+    );
+    both(
+        "count over a second",
+        &all,
+        |(_, at)| {
+            let mut copy = at.state.clone();
+            copy.set_supply(1, at.now).expect("a fall");
+            copy
+        },
+        |(_, at)| {
+            let mut copy = at.chip;
+            (ours_scan::count_to(&mut copy, at.now, &mut 0), copy)
+        },
+    );
+    let (mut pixels, mut ours) = ([0; PIXELS], [0; PIXELS]);
+    both(
+        "image",
+        &all,
+        |(_, at)| at.state.render(black_box(&mut pixels)),
+        |(lent, at)| ours_scan::render(&at.chip, *lent, black_box(&mut ours)),
+    );
+}
+
 /// Calls of one kind a second, on a controller that runs.
 fn time_calls(name: &str, count: u64, mut call: impl FnMut(u64)) {
     let start = Instant::now();
@@ -162,6 +240,7 @@ pub fn run(seed: u64) -> bool {
     let mut random = Random::new(seed);
     clocks(&mut random);
     voltages(&mut random);
+    scans(&mut random);
     controller();
     true
 }

@@ -166,6 +166,15 @@ pub fn reached(random: &mut Random) -> (Controller, u128) {
     )
 }
 
+/// A state that calls reach after the bytes that start the scan.
+pub fn started(random: &mut Random) -> Controller {
+    let start = random.pick(&[0, micros(1), END / 2, END - (1 << 80)]);
+    let count = random.below(60);
+    let mut steps = random_steps(random, start, count, &GAPS);
+    starting(&mut steps, random);
+    reached_from(&steps)
+}
+
 /// The image of `scan.clock` with this clock in it.
 pub fn clock_image(clock: &ClockState) -> Vec<u8> {
     let parts = clock.parts();
