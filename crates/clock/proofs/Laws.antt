@@ -2,9 +2,10 @@
 -- counting in two steps is counting in one, and number 5 is kept.
 use Prim.Native.Nat.{ℕ, zero, suc, _+_, _-_, _*_, _/_, _%_, _^_, _≤_, _<_}
 use mathlib.Core.Bool.{Bool, true, false, cond}
-use mathlib.Core.Path.{_≡_, refl, _∙_, ap}
+use mathlib.Core.Path.{_≡_, refl, sym, _∙_, ap}
 use native.Mathlib.Omega.{arith}
-use native.Mathlib.Nat.{lt-of-le-of-lt, mul-le-mul, div-add-mod', mod-lt, le-div-iff-mul-le, div-lt-iff-lt-mul, mul-add-div-right, mul-le-mul-right, le-antisymm, le-trans}
+use native.Mathlib.Nat.{add-zero, lt-of-le-of-lt, mul-le-mul, div-add-mod', mod-lt, le-div-iff-mul-le, div-lt-iff-lt-mul, mul-add-div-right, mul-le-mul-right, le-antisymm, le-trans}
+use lib.Arith.{digits-div, digits-mod}
 use lib.Dec.{ltb}
 use borrow.Author.Tests.{lt-ltb, ltb-true, ltb-false, eq-eqb}
 use Rattle.clock.specs.declared.time.Time.{Time}
@@ -16,6 +17,7 @@ use Rattle.clock.specs.declared.edges.Refusal.{Refusal}
 use Rattle.clock.specs.Clock.{number, refusal, period, position, started, isOfRate, positionAfter, movedBy, edgesTo}
 use Rattle.clock.proofs.Rates.{Bounds, lcd-bounds}
 use Rattle.clock.proofs.Positions.{Valid}
+use Rattle.clock.proofs.Times.{time-of}
 
 -- each refusal is the one that its number names
 pub refusal-number : (e : Refusal) → refusal (number e) ≡ e
@@ -43,6 +45,21 @@ module _ (r : Rate) (c : Clock) where
   after-after : (a b : ℕ) → positionAfter r (movedBy r c a) b ≡ positionAfter r c (a + b)
   unfolding positionAfter
   after-after a b = rw (moved-position a) (omega arith)
+
+  -- moving by no edge leaves the clock as it is
+  pub moved-none : c .fraction < r .numerator → c .at .fraction < 2 ^ 64 → movedBy r c 0 ≡ c
+  unfolding movedBy positionAfter position
+  moved-none h f = λ i. record {
+    at = sym (time-of (c .at .seconds) f (ap (λ (n : ℕ). n / r .numerator) here ∙ digits-div (raw (c .at)) h)) i;
+    whole = c .whole;
+    remainder = c .remainder;
+    denominator = c .denominator;
+    fraction = (ap (λ (n : ℕ). n % r .numerator) here ∙ digits-mod (raw (c .at)) h) i;
+    ordinal = add-zero (c .ordinal) i;
+  }
+    where
+      here : position r c + 0 * period r ≡ raw (c .at) * r .numerator + c .fraction
+      here = omega arith
 
   -- moving a and then b edges is moving a + b
   pub moved-moved : (a b : ℕ) → movedBy r (movedBy r c a) b ≡ movedBy r c (a + b)

@@ -6,7 +6,7 @@ ghost use Prim.Native.Nat.{_+_, _*_, _^_, _<_, _≤_, min};
 ghost use Rattle.clock.specs.Rate.{isLcd};
 ghost use Rattle.clock.specs.Time.{raw, inRange};
 ghost use Rattle.clock.specs.Wide.{wideOf};
-ghost use Rattle.clock.specs.Clock.{position, started, isOfRate, validClock, checkClock, newClock, edgesTo, countEdges, movedBy, moveClock, passEdges};
+ghost use Rattle.clock.specs.Clock.{position, started, isOfRate, validClock, checkClock, checkAt, newClock, edgesTo, countEdges, movedBy, moveClock, passEdges};
 use crate::rate::Rate;
 use crate::time::Time;
 use crate::wide::Wide;
@@ -161,6 +161,16 @@ impl Clock {
         Check::Passed
     }
 
+    // The same of a call that takes a moment: number 1 first.
+    fn check_at(self, rate: Rate, now: Time) -> Check
+        ensures { λ r. ⌜ r ≡ checkAt rate self now ⌝ }
+    {
+        if !now.in_range() {
+            return Check::Refused(Refusal::Time);
+        }
+        self.check(rate)
+    }
+
     // How many edges stand after the last one and not later than now.
     fn count_to(self, rate: Rate, now: Time) -> u64
         requires { ⌜ isLcd rate ≡ true ⌝ }
@@ -181,14 +191,9 @@ impl Clock {
     pub fn edges_to(self, rate: Rate, now: Time) -> Edges
         ensures { λ r. ⌜ r ≡ countEdges rate self now ⌝ }
     {
-        if !now.in_range() {
-            return Edges::Refused(Refusal::Time);
-        }
-        if !rate.is_lcd() {
-            return Edges::Refused(Refusal::Rate);
-        }
-        if !self.valid(rate) {
-            return Edges::Refused(Refusal::Clock);
+        let check = self.check_at(rate, now);
+        if let Check::Refused(why) = check {
+            return Edges::Refused(why);
         }
         Edges::Count(self.count_to(rate, now))
     }
@@ -200,6 +205,10 @@ impl Clock {
         requires { ⌜ edges ≤ 2 ^ 50 ⌝ }
         ensures { λ r. ⌜ r ≡ movedBy rate self edges ⌝ }
     {
+        // Most clocks that are asked have no edge to pass, and a division is slow.
+        if edges == 0 {
+            return self;
+        }
         let at = self.at;
         let whole = self.whole;
         let begin = position_of(at, self.fraction, rate);
@@ -227,11 +236,9 @@ impl Clock {
     pub fn moved(self, rate: Rate, edges: u64) -> Made
         ensures { λ r. ⌜ r ≡ moveClock rate self edges ⌝ }
     {
-        if !rate.is_lcd() {
-            return Made::Refused(Refusal::Rate);
-        }
-        if !self.valid(rate) {
-            return Made::Refused(Refusal::Clock);
+        let check = self.check(rate);
+        if let Check::Refused(why) = check {
+            return Made::Refused(why);
         }
         // More edges than any range of times holds at any LCD rate.
         if edges > 0x4_0000_0000_0000 {
@@ -249,14 +256,9 @@ impl Clock {
     pub fn passed_to(self, rate: Rate, now: Time, limit: u64) -> Passed
         ensures { λ r. ⌜ r ≡ passEdges rate self now limit ⌝ }
     {
-        if !now.in_range() {
-            return Passed::Refused(Refusal::Time);
-        }
-        if !rate.is_lcd() {
-            return Passed::Refused(Refusal::Rate);
-        }
-        if !self.valid(rate) {
-            return Passed::Refused(Refusal::Clock);
+        let check = self.check_at(rate, now);
+        if let Check::Refused(why) = check {
+            return Passed::Refused(why);
         }
         let count = smaller(self.count_to(rate, now), limit);
         let clock = self.move_by(rate, count);

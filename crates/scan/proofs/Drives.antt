@@ -18,13 +18,12 @@ use Rattle.scan.specs.declared.settings.Settings.{Settings}
 use Rattle.scan.specs.declared.state.Scan.{Scan}
 use Rattle.scan.specs.declared.state.Refusal.{Refusal}
 use Rattle.scan.specs.declared.state.Check.{Check}
-use Rattle.scan.specs.declared.count.Counted.{Counted}
 use Rattle.scan.specs.declared.drive.Conditions.{Conditions}
 use Rattle.scan.specs.declared.drive.Common.{Common}
 use Rattle.scan.specs.declared.drive.LcdDrive.{LcdDrive}
 use Rattle.scan.specs.Settings.{validSettings}
 use Rattle.scan.specs.State.{checkScan}
-use Rattle.scan.specs.Count.{countTo, countChecked, countScan}
+use Rattle.scan.specs.Count.{countTo}
 use Rattle.scan.specs.Latch.{segmentActive, bit, latch, shown}
 use Rattle.scan.specs.Run.{checkCall}
 use Rattle.scan.specs.Drive.{driven, commonOf, undriven, driveOf, driveAt, off, driveIf, driveScan, activeIn}
@@ -36,14 +35,9 @@ use Rattle.voltage.specs.declared.Settings as analog
 use Rattle.voltage.specs.Check as analogs
 use Rattle.voltage.specs.declared.Refusal as unfit
 
--- the scan that counting to a moment answers
-module _ (s : Settings) (x : Scan) (now : Time) (i : inRange now ≡ true) (v : validSettings s ≡ true) (p : checkScan x ≡ Check.Passed) {k : Counted} (e : k ≡ countScan s x now) where
-  pub counted-is : k .scan ≡ countTo s x now
-  unfolding countScan countChecked
-  counted-is = rw e (simp (i, v, p))
-
-  pub counted-passes : checkScan (k .scan) ≡ Check.Passed
-  counted-passes = rw counted-is (valid-check (countTo s x now) (count-to-valid s (valid-settings s v) now i x (valid-scan x p)))
+-- the scan counted to a moment passes its check
+pub counted-passes : (s : Settings) (x : Scan) (now : Time) → inRange now ≡ true → validSettings s ≡ true → checkScan x ≡ Check.Passed → {y : Scan} → y ≡ countTo s x now → checkScan y ≡ Check.Passed
+counted-passes s x now i v p e = rw e (valid-check (countTo s x now) (count-to-valid s (valid-settings s v) now i x (valid-scan x p)))
 
 -- what `voltages` answers where its settings pass
 module _ (a : analog.Settings) (x : Supply) {r : Answer} (e : answered r ≡ answerOf a x) (v : analogs.validSettings a ≡ true) where

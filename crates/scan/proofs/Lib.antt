@@ -4,6 +4,7 @@ pub mod Quanta
 pub mod Kept
 pub mod Counting
 pub mod Pieces
+pub mod Stages
 pub mod Clocks
 pub mod Shades
 pub mod Latches

@@ -6,8 +6,8 @@ use mathlib.Core.Path.{_≡_, refl, sym, _∙_, ap}
 use native.Mathlib.Omega.{arith}
 use native.Mathlib.Nat.{mul-le-mul, div-self, mul-div-cancel, div-eq-of-lt, div-lt-iff-lt-mul, min-eq-left, min-eq-right}
 use native.Mathlib.Numerals.{add-one}
-use lib.Dec.{leb, eqb}
-use borrow.Author.Tests.{eq-eqb, ne-eqb, eqb-true, le-leb, leb-true, leb-false}
+use lib.Dec.{leb, ltb, eqb}
+use borrow.Author.Tests.{eq-eqb, ne-eqb, eqb-true, le-leb, leb-true, leb-false, lt-ltb, ltb-true, ltb-false}
 use Rattle.clock.specs.declared.time.Time.{Time}
 use Rattle.clock.specs.declared.rate.Rate.{Rate}
 use Rattle.clock.specs.declared.edges.Clock.{Clock}
@@ -16,19 +16,22 @@ use Rattle.clock.specs.declared.edges.Refusal.{Refusal}
 use Rattle.clock.specs.declared.edges.Passed.{Passed}
 use Rattle.clock.specs.Rate.{sameRate, isLcd}
 use Rattle.clock.specs.Clock.{movedBy, started, edgesTo, validClock, passEdges}
-use Rattle.clock.proofs.Tests.{both}
+use Rattle.clock.proofs.Tests.{both, ltb-same}
 use Rattle.clock.proofs.Rates.{lcd-bounds, same-rate, same-refl}
 use Rattle.clock.proofs.Positions.{valid, edges-le}
 use Rattle.clock.proofs.Laws.{earlier-in-range, moved-moved, counted, counts, edges-apart}
 use Rattle.scan.specs.declared.settings.Settings.{Settings}
 use Rattle.scan.specs.declared.state.Scan.{Scan}
 use Rattle.scan.specs.declared.state.ScanClock.{ScanClock}
-use Rattle.scan.specs.Settings.{pwmOf, frcCountOf, rowsOf, rateOf}
-use Rattle.scan.specs.State.{rows, validClockOf, withClock}
+use Rattle.scan.specs.declared.state.Check.{Check}
+use Rattle.scan.specs.declared.count.Piece.{Piece}
+use Rattle.scan.specs.declared.count.Counted.{Counted}
+use Rattle.scan.specs.Settings.{pwmOf, frcCountOf, rowsOf, rateOf, validSettings}
+use Rattle.scan.specs.State.{rows, validClockOf, checkScan, withClock}
 use Rattle.scan.specs.Quantum.{ticked, quantum, quanta}
 use Rattle.scan.specs.Count.{dueAt, due, countFor, countTo, rowSame, frameSame, rateSame, limitWith, pieceLimit, piece, piecesFor, pieces}
-use Rattle.scan.specs.Closed.{endedRows, endedFrames, after, closed, limitIn}
-use Rattle.scan.proofs.Checks.{Valid, ValidSettings}
+use Rattle.scan.specs.Closed.{endedRows, endedFrames, after, closed, limitIn, endsAt, endsWithin, pieceOf}
+use Rattle.scan.proofs.Checks.{Valid, ValidSettings, valid-scan, valid-settings}
 use Rattle.scan.proofs.Numbers.{beq-true, beq-refl}
 use Rattle.scan.proofs.Quanta.{RowSettled, FrameSettled, Ok, rateAfter, clockIn, rateIn, latchIn, whole, rate-stays, first, quanta-whole}
 use Rattle.scan.proofs.Kept.{rate-lcd}
@@ -201,23 +204,24 @@ module _ (s : Settings) (x : Scan) (v : Valid x) (c : Clock) (running : x .clock
   unfolding piece
   piece-whole h = count-limit (pieceLimit s x now) (λ m l. within s x v (raw now + 1) m l) ∙ ap (whole s x) (limits-agree h)
 
-  -- where edges are still due after a piece, it went to its limit
-  to-limit : due (piece s x now) now ≡ true → piece s x now ≡ whole s x (pieceLimit s x now)
-  unfolding piece
-  to-limit d = go (leb (pieceLimit s x now) edges) refl
-    where
-      ok : (m : ℕ) → m < pieceLimit s x now → Ok s x m
-      ok m l = within s x v (raw now + 1) m l
+  module _ (i : inRange now ≡ true) where
+    pub few : edges ≤ 2 ^ 50
+    few = edges-le (x .rate) (lcd-bounds (x .rate) (v .lcd)) c now i
 
-      counts-all : countFor (pieceLimit s x now) s x now ≡ whole s x (min edges (pieceLimit s x now))
-      counts-all = count-limit (pieceLimit s x now) ok
+    -- fewer edges than the limit: none is due after the piece
+    within-limit : edges < limitIn s x → due (piece s x now) now ≡ false
+    within-limit h =
+        ap (λ (y : Scan). due y now) (piece-whole (let g = few in omega arith) ∙ ap (whole s x) (min-eq-left {n = edges} {m = limitIn s x} (omega arith)))
+        ∙ due-no edges (within s x v 18446744073709551615 edges h) (omega arith)
 
-      go : (t : Bool) → leb (pieceLimit s x now) edges ≡ t → countFor (pieceLimit s x now) s x now ≡ whole s x (pieceLimit s x now)
-      go true h = counts-all ∙ ap (whole s x) (min-eq-right (leb-true _ _ h))
-      go false h =
-          let l = leb-false (pieceLimit s x now) edges h in
-          let e = counts-all ∙ ap (whole s x) (min-eq-left {n = edges} {m = pieceLimit s x now} (omega arith)) in
-          absurd (false≢true (sym (ap (λ (y : Scan). due y now) e ∙ due-no edges (ok edges l) (omega arith)) ∙ d))
+    -- else the piece went to its limit
+    to-limit : limitIn s x ≤ edges → piece s x now ≡ whole s x (limitIn s x)
+    to-limit h = piece-whole (let g = few in omega arith) ∙ ap (whole s x) (min-eq-right h)
+
+    due-first : limitIn s x ≤ edges → due x now ≡ true
+    due-first h =
+        let l = limit-pos s x v 18446744073709551615 (omega arith) in
+        rw (first s x v) (due-yes zero (within s x v 18446744073709551615 zero l) (omega arith))
 
 -- what n quanta at once leave in force
 module _ (s : Settings) (x : Scan) where
@@ -283,44 +287,72 @@ module _ (s : Settings) (x : Scan) (all : ℕ) (a : rateSame s x ≡ true) where
   unfolding limitWith
   limit-all b c = simp (a, b, c)
 
--- with every setting in force a piece counts all
-all-then : (s : Settings) → ValidSettings s → (now : Time) → inRange now ≡ true → (x : Scan) → Valid x → due (piece s x now) now ≡ true → rateSame s x ≡ true → rowSame s x ≡ true → frameSame s x ≡ true → ⊥
-unfolding piece countTo
-all-then s vs now i x v d a b c =
-    false≢true (sym (ap (λ (k : ℕ). due (countFor k s x now) now) (limit-all s x (raw now + 1) a b c) ∙ count-settled s vs now i x v) ∙ d)
+-- a stopped clock has no edge due
+module _ (s : Settings) (x : Scan) (now : Time) (stopped : x .clock ≡ ScanClock.Stopped) where
+  stopped-due : due x now ≡ false
+  unfolding due dueAt
+  stopped-due = rw stopped
 
--- a piece after which edges are still due
-module _ (s : Settings) (vs : ValidSettings s) (now : Time) (i : inRange now ≡ true) (x : Scan) (v : Valid x) (d : due (piece s x now) now ≡ true) where
-  limited : piece s x now ≡ whole s x (pieceLimit s x now)
-  unfolding piece due dueAt
-  limited = go (x .clock) refl
+  stopped-piece : piece s x now ≡ x
+  unfolding piece
+  stopped-piece = count-none (pieceLimit s x now) s x now stopped-due
+
+  stopped-ends : endsWithin s x now ≡ true
+  unfolding endsWithin endsAt
+  stopped-ends = rw stopped
+
+  pub stopped-answer : pieceOf s x now ≡ record { counted = false; last = true; scan = x }
+  unfolding pieceOf
+  stopped-answer = λ j. record { counted = stopped-due j; last = stopped-ends j; scan = stopped-piece j }
+
+-- whether a piece counts all that is due
+module _ (s : Settings) (now : Time) (i : inRange now ≡ true) (x : Scan) (v : Valid x) where
+  -- it does with every setting in force
+  pub all-ends : rateSame s x ≡ true → rowSame s x ≡ true → frameSame s x ≡ true → endsWithin s x now ≡ true
+  unfolding endsWithin endsAt
+  all-ends a b d = go (x .clock) refl
     where
-      stopped : x .clock ≡ ScanClock.Stopped → due x now ≡ false
-      stopped e = rw e
+      go : (k : ScanClock) → x .clock ≡ k → endsAt k (x .rate) (limitIn s x) now ≡ true
+      go (ScanClock.Running c) e = rw (limit-all s x 18446744073709551615 a b d) (lt-ltb (edgesTo (x .rate) c now) 18446744073709551615 (let g = few s x v c e now i in omega arith))
+      go ScanClock.Stopped e = refl
 
-      go : (k : ScanClock) → x .clock ≡ k → piece s x now ≡ whole s x (pieceLimit s x now)
-      go (ScanClock.Running c) e = to-limit s x v c e now d
-      go ScanClock.Stopped e = absurd (false≢true (sym (ap (λ (y : Scan). due y now) (count-none (pieceLimit s x now) s x now (stopped e)) ∙ stopped e) ∙ d))
-
-  rate-then : rateSame s (piece s x now) ≡ true
-  rate-then = rw limited (rate-taken s x (pieceLimit s x now) (limit-pos s x v (raw now + 1) (omega arith)))
-
-  -- the rate in force before the piece: its row end took what a row end takes
-  row-then : rateSame s x ≡ true → rowSame s (piece s x now) ≡ true
-  row-then a = rw limited (row-taken s x (pieceLimit s x now) (go (rowSame s x) refl (frameSame s x) refl))
+  pub none-after : endsWithin s x now ≡ true → due (piece s x now) now ≡ false
+  unfolding endsWithin endsAt
+  none-after h = go (x .clock) refl h
     where
-      go : (b : Bool) → rowSame s x ≡ b → (c : Bool) → frameSame s x ≡ c → 0 < endedRows x (pieceLimit s x now)
-      go false b c e = rw (limit-row s x (raw now + 1) a b, row-at-end s x (v .step-below)) (omega arith)
-      go true b false c = rw (limit-frame s x (raw now + 1) a b c, row-at-frame s x (v .step-below) (v .row-below)) (omega (arith, v .row-below))
-      go true b true c = absurd (all-then s vs now i x v d a b c)
+      go : (k : ScanClock) → x .clock ≡ k → endsAt k (x .rate) (limitIn s x) now ≡ true → due (piece s x now) now ≡ false
+      go (ScanClock.Running c) e l = within-limit s x v c e now i (ltb-true _ _ l)
+      go ScanClock.Stopped e l = ap (λ (y : Scan). due y now) (stopped-piece s x now e) ∙ stopped-due s x now e
 
-  -- what a row end takes in force too: its frame end took what a frame end takes
-  frame-then : rateSame s x ≡ true → rowSame s x ≡ true → frameSame s (piece s x now) ≡ true
-  frame-then a b = rw limited (frame-taken s x (pieceLimit s x now) (go (frameSame s x) refl))
-    where
-      go : (c : Bool) → frameSame s x ≡ c → 0 < endedFrames x (pieceLimit s x now)
-      go false c = rw (limit-frame s x (raw now + 1) a b c, frame-at-end s x (v .step-below) (v .row-below)) (omega arith)
-      go true c = absurd (all-then s vs now i x v d a b c)
+  -- where it does not, it went to its limit
+  module _ (more : endsWithin s x now ≡ false) where
+    pub reached : (piece s x now ≡ whole s x (limitIn s x)) × (due x now ≡ true)
+    unfolding endsWithin endsAt
+    reached = go (x .clock) refl more
+      where
+        go : (k : ScanClock) → x .clock ≡ k → endsAt k (x .rate) (limitIn s x) now ≡ false → (piece s x now ≡ whole s x (limitIn s x)) × (due x now ≡ true)
+        go (ScanClock.Running c) e l = (to-limit s x v c e now i (ltb-false _ _ l), due-first s x v c e now i (ltb-false _ _ l))
+        go ScanClock.Stopped e l = absurd (false≢true (sym l))
+
+    pub rate-then : rateSame s (piece s x now) ≡ true
+    rate-then = rw (reached .0) (rate-taken s x (limitIn s x) (limit-pos s x v 18446744073709551615 (omega arith)))
+
+    -- the rate in force before the piece: its row end took what a row end takes
+    pub row-then : rateSame s x ≡ true → rowSame s (piece s x now) ≡ true
+    row-then a = rw (reached .0) (row-taken s x (limitIn s x) (go (rowSame s x) refl (frameSame s x) refl))
+      where
+        go : (b : Bool) → rowSame s x ≡ b → (c : Bool) → frameSame s x ≡ c → 0 < endedRows x (limitIn s x)
+        go false b c e = rw (limit-row s x 18446744073709551615 a b, row-at-end s x (v .step-below)) (omega arith)
+        go true b false c = rw (limit-frame s x 18446744073709551615 a b c, row-at-frame s x (v .step-below) (v .row-below)) (omega (arith, v .row-below))
+        go true b true c = absurd (false≢true (sym more ∙ all-ends a b c))
+
+    -- what a row end takes in force too: its frame end took what a frame end takes
+    pub frame-then : rateSame s x ≡ true → rowSame s x ≡ true → frameSame s (piece s x now) ≡ true
+    frame-then a b = rw (reached .0) (frame-taken s x (limitIn s x) (go (frameSame s x) refl))
+      where
+        go : (c : Bool) → frameSame s x ≡ c → 0 < endedFrames x (limitIn s x)
+        go false c = rw (limit-frame s x 18446744073709551615 a b c, frame-at-end s x (v .step-below) (v .row-below)) (omega arith)
+        go true c = absurd (false≢true (sym more ∙ all-ends a b c))
 
 -- the scan counted by pieces
 module _ (s : Settings) (vs : ValidSettings s) (now : Time) (i : inRange now ≡ true) where
@@ -333,11 +365,6 @@ module _ (s : Settings) (vs : ValidSettings s) (now : Time) (i : inRange now ≡
   unfolding piece
   piece-counts x v = count-on s vs now now i i (omega arith) (pieceLimit s x now) x v
 
-  -- with no edge due, the count and the piece are the scan itself
-  pub none-due : (x : Scan) → due x now ≡ false → countTo s x now ≡ piece s x now
-  unfolding piece countTo
-  none-due x d = count-none (raw now + 1) s x now d ∙ sym (count-none (pieceLimit s x now) s x now d)
-
 -- the uses of the piece rule, one by one
 pub pieces-none : (k : ℕ) (s : Settings) (x : Scan) (now : Time) → due x now ≡ false → piecesFor k s x now ≡ 0
 unfolding piecesFor
@@ -348,18 +375,17 @@ pub pieces-more : (k : ℕ) (s : Settings) (x : Scan) (now : Time) → due x now
 unfolding piecesFor
 pieces-more k s x now d = rw d
 
--- a stopped clock has no edge due
-module _ (s : Settings) (x : Scan) (now : Time) (stopped : x .clock ≡ ScanClock.Stopped) where
-  pub stopped-due : false ≡ due x now
-  unfolding due dueAt
-  stopped-due = rw stopped
-
-  pub stopped-piece : x ≡ piece s x now
-  unfolding piece
-  stopped-piece = sym (count-none (pieceLimit s x now) s x now (sym stopped-due))
-
 -- one piece by the clock's answer: n edges passed, and the clock m moved by them
-module _ (s : Settings) (vs : ValidSettings s) (x : Scan) (v : Valid x) (now : Time) (i : inRange now ≡ true) (c : Clock) (running : x .clock ≡ ScanClock.Running c) (l : ℕ) (limit : l ≡ limitIn s x) where
+module _ (s : Settings) (now : Time) (x : Scan) (pre : (inRange now ≡ true) × ((validSettings s ≡ true) × (checkScan x ≡ Check.Passed))) {c : Clock} (running : x .clock ≡ ScanClock.Running c) {l : ℕ} (limit : l ≡ limitIn s x) where
+  abbrev i : inRange now ≡ true
+  i = pre .0
+
+  abbrev vs : ValidSettings s
+  vs = valid-settings s (pre .1 .0)
+
+  abbrev v : Valid x
+  v = valid-scan x (pre .1 .1)
+
   clock-passes : validClock (x .rate) c ≡ true
   unfolding validClockOf
   clock-passes = clock-valid s x v c running now
@@ -367,18 +393,18 @@ module _ (s : Settings) (vs : ValidSettings s) (x : Scan) (v : Valid x) (now : T
   pub no-refusal : {e : Refusal} → passEdges (x .rate) c now l ≡ Passed.Refused e → ⊥
   no-refusal h = not-turned-down (x .rate) c now l i (v .lcd) clock-passes h
 
-  module _ (n : ℕ) (m : Clock) (answer : passEdges (x .rate) c now l ≡ Passed.Edges n m) where
+  module _ {n : ℕ} {m : Clock} (answer : passEdges (x .rate) c now l ≡ Passed.Edges n m) where
     count : n ≡ min (edgesTo (x .rate) c now) (limitIn s x)
     count = count-is (x .rate) c now l i (v .lcd) clock-passes answer ∙ ap (min (edgesTo (x .rate) c now)) limit
 
     moved : m ≡ movedBy (x .rate) c n
     moved = moved-is (x .rate) c now l i (v .lcd) clock-passes answer ∙ ap (movedBy (x .rate) c) (sym (count-is (x .rate) c now l i (v .lcd) clock-passes answer))
 
-    few : edgesTo (x .rate) c now ≤ 2 ^ 50
-    few = edges-le (x .rate) (lcd-bounds (x .rate) (v .lcd)) c now i
+    all-few : edgesTo (x .rate) c now ≤ 2 ^ 50
+    all-few = few s x v c running now i
 
     pub count-small : n ≤ 2 ^ 50
-    count-small = let e = count in let g = few in omega arith
+    count-small = let e = count in let g = all-few in omega arith
 
     start-ok : Ok s x zero
     start-ok = within s x v (raw now + 1) zero (limit-pos s x v (raw now + 1) (omega arith))
@@ -386,22 +412,24 @@ module _ (s : Settings) (vs : ValidSettings s) (x : Scan) (v : Valid x) (now : T
     some-limit : 0 < limitIn s x
     some-limit = limit-pos s x v 18446744073709551615 (omega arith)
 
-    pub none-passed : n ≡ 0 → due x now ≡ false
-    none-passed z = rw (first s x v) (due-no s x v c running now zero start-ok (let e = count in let g = some-limit in omega arith))
+    -- the edges are fewer than the limit exactly if those passed are
+    last-piece : endsWithin s x now ≡ ltb n l
+    unfolding endsWithin endsAt
+    last-piece =
+        ap (λ (k : ScanClock). endsAt k (x .rate) (limitIn s x) now) running
+        ∙ ltb-same (edgesTo (x .rate) c now) (limitIn s x) n l (λ h. let e = count in omega arith) (λ h. let e = count in omega arith)
 
-    pub some-passed : (n ≡ 0 → ⊥) → due x now ≡ true
-    some-passed z = rw (first s x v) (due-yes s x v c running now zero start-ok (let e = count in omega (arith, z)))
+    module _ (z : n ≡ 0) where
+      none-due : due x now ≡ false
+      none-due = rw (first s x v) (due-no s x v c running now zero start-ok (let e = count in let g = some-limit in omega arith))
 
-    pub none-piece : n ≡ 0 → x ≡ piece s x now
-    unfolding piece
-    none-piece z = sym (count-none (pieceLimit s x now) s x now (none-passed z))
-
-    -- the last edge passed is in range
-    pub moved-in-range : (n ≡ 0 → ⊥) → inRange (m .at) ≡ true
-    moved-in-range z =
-        rw moved
-        (earlier-in-range (movedBy (x .rate) c n .at) now
-        (counted (x .rate) (lcd-bounds (x .rate) (v .lcd)) c (below s x v c running now) now n (omega (arith, z)) (let e = count in omega arith)) i)
+      pub none-answer : pieceOf s x now ≡ record { counted = false; last = true; scan = x }
+      unfolding pieceOf piece
+      none-answer = λ j. record {
+        counted = none-due j;
+        last = (last-piece ∙ lt-ltb n l (let g = some-limit in omega arith)) j;
+        scan = count-none (pieceLimit s x now) s x now none-due j;
+      }
 
     pub new-lcd : isLcd (rateAfter s x (endedFrames x n)) ≡ true
     unfolding rateAfter
@@ -411,108 +439,36 @@ module _ (s : Settings) (vs : ValidSettings s) (x : Scan) (v : Valid x) (now : T
         go true = rate-lcd s vs (x .duty) (x .icon) (v .duty-low) (v .duty-high)
         go false = rate-lcd s vs (s .duty) (s .«icon_enabled») (vs .duty-low) (vs .duty-high)
 
-    -- counters, clock and rate as src/count.rt joins them
-    joined : (n : ℕ) → (n ≡ 0 → ⊥) → withClock (closed s x (x .clock) (x .rate) false n) (cond (sameRate (x .rate) (rateAfter s x (endedFrames x n))) (ScanClock.Running (movedBy (x .rate) c n)) (ScanClock.Running (started (movedBy (x .rate) c n .at) (rateAfter s x (endedFrames x n))))) (rateAfter s x (endedFrames x n)) ≡ whole s x n
-    unfolding withClock closed after whole clockIn rateIn latchIn ticked
-    joined zero z = absurd (z refl)
-    joined (suc n) z = rw running
+    module _ (z : n ≡ 0 → ⊥) where
+      some-due : due x now ≡ true
+      some-due = rw (first s x v) (due-yes s x v c running now zero start-ok (let e = count in omega (arith, z)))
 
-    pub some-piece : (n ≡ 0 → ⊥) → withClock (closed s x (x .clock) (x .rate) false n) (cond (sameRate (x .rate) (rateAfter s x (endedFrames x n))) (ScanClock.Running m) (ScanClock.Running (started (m .at) (rateAfter s x (endedFrames x n))))) (rateAfter s x (endedFrames x n)) ≡ piece s x now
-    some-piece z =
-        rw moved (joined n z)
-        ∙ ap (whole s x) count
-        ∙ sym (piece-whole s x v c running now (let g = few in omega arith))
+      -- the last edge passed is in range
+      pub moved-in-range : inRange (m .at) ≡ true
+      moved-in-range =
+          rw moved
+          (earlier-in-range (movedBy (x .rate) c n .at) now
+          (counted (x .rate) (lcd-bounds (x .rate) (v .lcd)) c (below s x v c running now) now n (omega (arith, z)) (let e = count in omega arith)) i)
 
--- up to four pieces, one after another: a, b, c and d stand after the first, second, third and fourth
-module _ (s : Settings) (vs : ValidSettings s) (now : Time) (i : inRange now ≡ true) (x : Scan) (v : Valid x) where
-  pub none : (a : Scan) → a ≡ piece s x now → due x now ≡ false → (a ≡ countTo s x now) × (0 ≡ pieces s x now)
-  unfolding pieces
-  none a ea dx = (ea ∙ sym (none-due s vs now i x dx), sym (pieces-none (raw now + 4) s x now dx))
+      -- counters, clock and rate as src/count.rt joins them
+      joined : (n : ℕ) → (n ≡ 0 → ⊥) → withClock (closed s x (x .clock) (x .rate) false n) (cond (sameRate (x .rate) (rateAfter s x (endedFrames x n))) (ScanClock.Running (movedBy (x .rate) c n)) (ScanClock.Running (started (movedBy (x .rate) c n .at) (rateAfter s x (endedFrames x n))))) (rateAfter s x (endedFrames x n)) ≡ whole s x n
+      unfolding withClock closed after whole clockIn rateIn latchIn ticked
+      joined zero z = absurd (z refl)
+      joined (suc n) z = rw running
 
-  module _ (a : Scan) (ea : a ≡ piece s x now) (dx : due x now ≡ true) where
-    pub valid-a : Valid a
-    valid-a = rw ea (piece-valid s vs now i x v)
+      some-piece : withClock (closed s x (x .clock) (x .rate) false n) (cond (sameRate (x .rate) (rateAfter s x (endedFrames x n))) (ScanClock.Running m) (ScanClock.Running (started (m .at) (rateAfter s x (endedFrames x n))))) (rateAfter s x (endedFrames x n)) ≡ piece s x now
+      some-piece =
+          rw moved (joined n z)
+          ∙ ap (whole s x) count
+          ∙ sym (piece-whole s x v c running now (let g = all-few in omega arith))
 
-    counts-a : countTo s a now ≡ countTo s x now
-    counts-a = rw ea (piece-counts s vs now i x v)
+      -- the answer from the scan `next` with its counters n quanta later, the rate `new` of its rows and its clock `k`
+      pub some-answer : {next : Scan} → next ≡ closed s x (x .clock) (x .rate) false n → {new : Rate} → new ≡ rateOf s (rowsOf (next .duty) (next .icon)) → {k : ScanClock} → k ≡ cond (sameRate (x .rate) new) (ScanClock.Running m) (ScanClock.Running (started (m .at) new)) → {y : Scan} → y ≡ withClock next k new → pieceOf s x now ≡ record { counted = true; last = ltb n l; scan = y }
+      unfolding pieceOf closed after rateAfter
+      some-answer {next} en {new} er {k} ek {y} ey = λ j. record { counted = some-due j; last = last-piece j; scan = (sym some-piece ∙ sym given) j }
+        where
+          rate-is : new ≡ rateAfter s x (endedFrames x n)
+          rate-is = er ∙ ap (λ (t : Scan). rateOf s (rowsOf (t .duty) (t .icon))) en
 
-    uses-a : pieces s x now ≡ suc (piecesFor (raw now + 3) s a now)
-    unfolding pieces
-    uses-a = ap (λ (k : ℕ). piecesFor k s x now) (omega arith) ∙ pieces-more (raw now + 3) s x now dx ∙ ap (λ (y : Scan). suc (piecesFor (raw now + 3) s y now)) (sym ea)
-
-    pub one : (b : Scan) → b ≡ piece s a now → due a now ≡ false → (b ≡ countTo s x now) × (1 ≡ pieces s x now)
-    one b eb da = (eb ∙ sym (none-due s vs now i a da) ∙ counts-a, sym (uses-a ∙ ap suc (pieces-none (raw now + 3) s a now da)))
-
-    module _ (b : Scan) (eb : b ≡ piece s a now) (da : due a now ≡ true) where
-      pub valid-b : Valid b
-      valid-b = rw eb (piece-valid s vs now i a valid-a)
-
-      counts-b : countTo s b now ≡ countTo s x now
-      counts-b = rw eb (piece-counts s vs now i a valid-a) ∙ counts-a
-
-      uses-b : pieces s x now ≡ suc (suc (piecesFor (raw now + 2) s b now))
-      uses-b =
-          uses-a
-          ∙ ap suc (ap (λ (k : ℕ). piecesFor k s a now) (omega arith) ∙ pieces-more (raw now + 2) s a now da ∙ ap (λ (y : Scan). suc (piecesFor (raw now + 2) s y now)) (sym eb))
-
-      pub two : (c : Scan) → c ≡ piece s b now → due b now ≡ false → (c ≡ countTo s x now) × (2 ≡ pieces s x now)
-      two c ec db = (ec ∙ sym (none-due s vs now i b db) ∙ counts-b, sym (uses-b ∙ ap (λ (k : ℕ). suc (suc k)) (pieces-none (raw now + 2) s b now db)))
-
-      module _ (c : Scan) (ec : c ≡ piece s b now) (db : due b now ≡ true) where
-        pub valid-c : Valid c
-        valid-c = rw ec (piece-valid s vs now i b valid-b)
-
-        counts-c : countTo s c now ≡ countTo s x now
-        counts-c = rw ec (piece-counts s vs now i b valid-b) ∙ counts-b
-
-        uses-c : pieces s x now ≡ suc (suc (suc (piecesFor (raw now + 1) s c now)))
-        uses-c =
-            uses-b
-            ∙ ap (λ (k : ℕ). suc (suc k)) (ap (λ (k : ℕ). piecesFor k s b now) (omega arith) ∙ pieces-more (raw now + 1) s b now db ∙ ap (λ (y : Scan). suc (piecesFor (raw now + 1) s y now)) (sym ec))
-
-        pub three : (d : Scan) → d ≡ piece s c now → due c now ≡ false → (d ≡ countTo s x now) × (3 ≡ pieces s x now)
-        three d ed dc = (ed ∙ sym (none-due s vs now i c dc) ∙ counts-c, sym (uses-c ∙ ap (λ (k : ℕ). suc (suc (suc k))) (pieces-none (raw now + 1) s c now dc)))
-
-        -- the rate is in force in a, what a row end takes in b too, and what a frame end takes in c too: the fourth
-        -- piece counts all
-        pub no-fifth : (d : Scan) → d ≡ piece s c now → due c now ≡ true → due d now ≡ false
-        no-fifth d ed dc = go (due d now) refl
-          where
-            go : (t : Bool) → due d now ≡ t → due d now ≡ false
-            go false h = h
-            go true h =
-                let ra : rateSame s a ≡ true = rw ea (rate-then s vs now i x v (rw (← ea) da)) in
-                let rb : rateSame s b ≡ true = rw eb (rate-then s vs now i a valid-a (rw (← eb) db)) in
-                let wb : rowSame s b ≡ true = rw eb (row-then s vs now i a valid-a (rw (← eb) db) ra) in
-                let rc : rateSame s c ≡ true = rw ec (rate-then s vs now i b valid-b (rw (← ec) dc)) in
-                let wc : rowSame s c ≡ true = rw ec (row-then s vs now i b valid-b (rw (← ec) dc) rb) in
-                let fc : frameSame s c ≡ true = rw ec (frame-then s vs now i b valid-b (rw (← ec) dc) rb wb) in
-                absurd (all-then s vs now i c valid-c (rw (← ed) h) rc wc fc)
-
-        pub all-four : (d : Scan) → d ≡ piece s c now → due c now ≡ true → (d ≡ countTo s x now) × (4 ≡ pieces s x now)
-        unfolding countTo
-        all-four d ed dc =
-            let dd = no-fifth d ed dc in (
-              sym (count-none (raw now + 1) s d now dd) ∙ rw ed (piece-counts s vs now i c valid-c) ∙ counts-c,
-              sym (uses-c ∙ ap (λ (k : ℕ). suc (suc (suc k))) (ap (λ (k : ℕ). piecesFor k s c now) (add-one (raw now)) ∙ pieces-more (raw now) s c now dc ∙ ap (λ (y : Scan). suc (piecesFor (raw now) s y now)) (sym ed) ∙ ap suc (pieces-none (raw now) s d now dd))),
-            )
-
--- the piece rule is used at most four times
-pub at-most-four : (s : Settings) → ValidSettings s → (now : Time) → inRange now ≡ true → (x : Scan) → Valid x → pieces s x now ≤ 4
-at-most-four s vs now i x v = go (due x now) refl (due a now) refl (due b now) refl (due c now) refl
-  where
-    a : Scan
-    a = piece s x now
-
-    b : Scan
-    b = piece s a now
-
-    c : Scan
-    c = piece s b now
-
-    go : (p : Bool) → due x now ≡ p → (q : Bool) → due a now ≡ q → (r : Bool) → due b now ≡ r → (t : Bool) → due c now ≡ t → pieces s x now ≤ 4
-    go false dx q da r db t dc = omega (arith, none s vs now i x v a refl dx .1)
-    go true dx false da r db t dc = omega (arith, one s vs now i x v a refl dx b refl da .1)
-    go true dx true da false db t dc = omega (arith, two s vs now i x v a refl dx b refl da c refl db .1)
-    go true dx true da true db false dc = omega (arith, three s vs now i x v a refl dx b refl da c refl db (piece s c now) refl dc .1)
-    go true dx true da true db true dc = omega (arith, all-four s vs now i x v a refl dx b refl da c refl db (piece s c now) refl dc .1)
+          given : y ≡ withClock (closed s x (x .clock) (x .rate) false n) (cond (sameRate (x .rate) (rateAfter s x (endedFrames x n))) (ScanClock.Running m) (ScanClock.Running (started (m .at) (rateAfter s x (endedFrames x n))))) (rateAfter s x (endedFrames x n))
+          given = ey ∙ (λ j. withClock (en j) ((ek ∙ ap (λ (r : Rate). cond (sameRate (x .rate) r) (ScanClock.Running m) (ScanClock.Running (started (m .at) r))) rate-is) j) (rate-is j))

@@ -1,15 +1,18 @@
 -- What the private functions of src/count.rt compute by division and remainder: n quanta at once. Nothing here is a rule;
 -- proofs/Quanta.antt shows that it equals `quanta`.
 use Prim.Native.Nat.{ℕ, _+_, _/_, _%_}
-use mathlib.Core.Bool.{Bool, cond, not}
-use lib.Dec.{eqb}
+use mathlib.Core.Bool.{Bool, true, cond, not}
+use lib.Dec.{ltb, eqb}
+use Rattle.clock.specs.declared.time.Time.{Time}
 use Rattle.clock.specs.declared.rate.Rate.{Rate}
+use Rattle.clock.specs.Clock.{edgesTo}
 use Rattle.scan.specs.declared.settings.Settings.{Settings}
 use Rattle.scan.specs.declared.state.Scan.{Scan}
 use Rattle.scan.specs.declared.state.ScanClock.{ScanClock}
 use Rattle.scan.specs.Settings.{pwmOf, frcCountOf}
 use Rattle.scan.specs.State.{rows}
-use Rattle.scan.specs.Count.{limitWith}
+use Rattle.scan.specs.declared.count.Piece.{Piece}
+use Rattle.scan.specs.Count.{due, limitWith, piece}
 
 -- b after n flips
 abbrev pub flipped : Bool → ℕ → Bool
@@ -68,3 +71,15 @@ closed s x k l b n =
 -- the piece rule's limit in 64 bits, for which all is the largest
 abbrev pub limitIn : Settings → Scan → ℕ
 limitIn s x = limitWith s x 18446744073709551615
+
+-- the edges up to now are fewer than the limit, so one piece counts them all
+unfoldable pub endsAt : ScanClock → Rate → (limit : ℕ) → Time → Bool
+endsAt (ScanClock.Running c) r limit now = ltb (edgesTo r c now) limit
+endsAt ScanClock.Stopped r limit now = true
+
+unfoldable pub endsWithin : Settings → Scan → Time → Bool
+endsWithin s x now = endsAt (x .clock) (x .rate) (limitIn s x) now
+
+-- one use of the piece rule, as src/count.rt answers it
+unfoldable pub pieceOf : Settings → Scan → Time → Piece
+pieceOf s x now = record { counted = due x now; last = endsWithin s x now; scan = piece s x now }

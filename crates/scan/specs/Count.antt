@@ -73,7 +73,7 @@ unfoldable pub piecesFor : ℕ → Settings → Scan → Time → ℕ
 piecesFor zero s x now = 0
 piecesFor (suc k) s x now = cond (due x now) (suc (piecesFor k s (piece s x now) now)) 0
 
--- the uses of the piece rule. There are at most 4, so the bound is never reached (proofs/Pieces.antt)
+-- the uses of the piece rule. There are at most 4, so the bound is never reached (proofs/Stages.antt)
 unfoldable pub pieces : Settings → Scan → Time → ℕ
 pieces s x now = piecesFor (raw now + 4) s x now
 

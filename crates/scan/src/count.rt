@@ -2,14 +2,14 @@
 // counted to a moment. Document 01, 'Scan'.
 ghost use mathlib.Core.Path.{_≡_};
 ghost use mathlib.Core.Bool.{true, false, cond, Bool·beq};
-ghost use Prim.Native.Nat.{_^_, _<_, _≤_};
+ghost use Prim.Native.Nat.{_+_, _^_, _<_, _≤_};
 ghost use Rattle.clock.specs.Time.{inRange};
 ghost use Rattle.clock.specs.Rate.{sameRate, isLcd};
 ghost use Rattle.clock.specs.Clock.{started};
 ghost use Rattle.scan.specs.Settings.{rowsOf, rateOf, validSettings};
 ghost use Rattle.scan.specs.State.{checkScan, withClock};
-ghost use Rattle.scan.specs.Count.{due, rowSame, frameSame, piece, pieces, countTo, countScan};
-ghost use Rattle.scan.specs.Closed.{flipped, flipsIn, countIn, countTaken, closed, limitIn};
+ghost use Rattle.scan.specs.Count.{rowSame, frameSame, pieces, countTo, countScan};
+ghost use Rattle.scan.specs.Closed.{flipped, flipsIn, countIn, countTaken, closed, limitIn, pieceOf};
 use crate::settings::Settings;
 use crate::settings::frc_count_of;
 use crate::settings::pwm_of;
@@ -31,9 +31,11 @@ pub struct Counted {
     pub pieces: u8,
 }
 
-// What one use of the piece rule did: whether an edge was due, and the scan after it.
+// What one use of the piece rule did: whether an edge was due, whether it counted all edges that are
+// due, and the scan after it.
 struct Piece {
     counted: bool,
+    last: bool,
     scan: Scan,
 }
 
@@ -240,83 +242,92 @@ pub(crate) fn with_clock(scan: Scan, clock: ScanClock, rate: Rate) -> Scan
     }
 }
 
+// A scan with no edge due.
+fn settled(scan: Scan) -> Piece
+    ensures { λ r. ⌜ r ≡ record { counted = false; last = true; scan = scan } ⌝ }
+{
+    Piece {
+        counted: false,
+        last: true,
+        scan: scan,
+    }
+}
+
 // One use of the piece rule.
 fn piece_of(scan: Scan, settings: Settings, now: Time) -> Piece
     requires { ⌜ inRange now ≡ true ⌝ }
     requires { ⌜ validSettings settings ≡ true ⌝ }
     requires { ⌜ checkScan scan ≡ Check.Passed ⌝ }
-    ensures { λ r. ⌜ r ≡ record { counted = due scan now; scan = piece settings scan now } ⌝ }
+    ensures { λ r. ⌜ r ≡ pieceOf settings scan now ⌝ }
 {
     let clock = scan.clock;
     let ScanClock::Running(running) = clock else {
-        return Piece {
-            counted: false,
-            scan: scan,
-        };
+        return settled(scan);
     };
     let rate = scan.rate;
-    let passed = running.passed_to(rate, now, limit_in(settings, scan));
+    let limit = limit_in(settings, scan);
+    let passed = running.passed_to(rate, now, limit);
     let Passed::Edges {
         count,
         clock: moved,
     } = passed
     else {
-        return Piece {
-            counted: false,
-            scan: scan,
-        };
+        return settled(scan);
     };
     if count == 0 {
-        return Piece {
-            counted: false,
-            scan: scan,
-        };
+        return settled(scan);
     }
     let next = advanced(scan, settings, count);
     let new = rate_of(settings, next.duty, next.icon);
     Piece {
         counted: true,
+        last: count < limit,
         scan: with_clock(next, next_clock(moved, rate, new), new),
     }
 }
 
 // The scan counted by at most four uses of the piece rule.
-fn in_pieces(scan: Scan, settings: Settings, now: Time) -> Counted
+pub(crate) fn in_pieces(scan: Scan, settings: Settings, now: Time) -> Counted
     requires { ⌜ inRange now ≡ true ⌝ }
     requires { ⌜ validSettings settings ≡ true ⌝ }
     requires { ⌜ checkScan scan ≡ Check.Passed ⌝ }
     ensures { λ r. ⌜ r ≡ record { check = Check.Passed; scan = countTo settings scan now; pieces = pieces settings scan now } ⌝ }
 {
     let first = piece_of(scan, settings, now);
-    if !first.counted {
+    if first.last {
         return done(first, 0);
     }
     let a = first.scan;
     let second = piece_of(a, settings, now);
-    if !second.counted {
+    if second.last {
         return done(second, 1);
     }
     let b = second.scan;
     let third = piece_of(b, settings, now);
-    if !third.counted {
+    if third.last {
         return done(third, 2);
     }
     let c = third.scan;
-    let fourth = piece_of(c, settings, now);
-    if !fourth.counted {
-        return done(fourth, 3);
-    }
-    done(fourth, 4)
+    done(piece_of(c, settings, now), 3)
 }
 
-fn done(last: Piece, pieces: u8) -> Counted
-    ensures { λ r. ⌜ r ≡ record { check = Check.Passed; scan = last .scan; pieces = pieces } ⌝ }
+// The last piece, after as many before it.
+fn done(last: Piece, before: u8) -> Counted
+    requires { ⌜ before ≤ 3 ⌝ }
+    ensures { λ r. ⌜ r ≡ record { check = Check.Passed; scan = last .scan; pieces = before + cond (last .counted) 1 0 } ⌝ }
 {
     let scan = last.scan;
+    if last.counted {
+        return Counted {
+            check: Check::Passed,
+            scan: scan,
+            pieces: before + 1,
+        };
+    }
     Counted {
         check: Check::Passed,
         scan: scan,
-        pieces: pieces,
+        pieces: before,
     }
 }
 

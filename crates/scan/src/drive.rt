@@ -7,7 +7,8 @@ ghost use lib.ListN.{length};
 ghost use Rattle.clock.specs.Time.{inRange};
 ghost use Rattle.scan.specs.Settings.{validSettings};
 ghost use Rattle.scan.specs.State.{checkScan};
-ghost use Rattle.scan.specs.Drive.{driven as drivenBy, grounded as groundedBy, commonOf, undriven as undrivenOf, driveOf, driveAt, driveScan, microvolts, levelMicrovolts, commonLevel, segmentLevel, activeIn, commonMicrovolts, segmentMicrovolts};
+ghost use Rattle.scan.specs.Drive.{driven as drivenBy, grounded as groundedBy, commonOf, undriven as undrivenOf, driveOf, driveAt, off, driveScan, microvolts, levelMicrovolts, commonLevel, segmentLevel, activeIn, commonMicrovolts, segmentMicrovolts};
+use crate::count::in_pieces;
 use crate::latch::segments;
 use crate::run::check_call;
 use crate::settings::Settings;
@@ -140,9 +141,19 @@ fn drive_at(
     if !conditions.driven() {
         return undriven(conditions, voltages);
     }
-    let counted = scan.count_to(settings, moment);
+    let counted = in_pieces(scan, settings, moment);
     let latest = counted.scan;
     drive_of(settings, latest, voltages, ram, icons)
+}
+
+// A refused drive is the undriven one.
+fn turned_down(check: Check) -> Driven
+    ensures { λ r. ⌜ r ≡ record { check = check; drive = off } ⌝ }
+{
+    Driven {
+        check: check,
+        drive: LcdDrive::OFF,
+    }
 }
 
 // The drive at a moment. The scan itself is left where it was.
@@ -160,19 +171,13 @@ pub fn drive(
     let settings_ok = settings.valid() & analog.valid();
     let check = check_call(settings_ok, scan, moment, ram, icons);
     let Check::Passed = check else {
-        return Driven {
-            check: check,
-            drive: LcdDrive::OFF,
-        };
+        return turned_down(check);
     };
     let supply = conditions.supply;
     let answer = voltage::voltages(analog, supply);
     // Settings that passed are not refused.
     let Answer::Voltages(voltages) = answer else {
-        return Driven {
-            check: check,
-            drive: LcdDrive::OFF,
-        };
+        return turned_down(check);
     };
     Driven {
         check: Check::Passed,

@@ -27,18 +27,27 @@ add-t12 c = search needs
 
 returns-2 : tie.Need-returns-2
 returns-2 c =
-    let a = c .before .before .before .before .before .before .before .before .args in
-    ended (a .s .now) (a .at) (a .end) (c .before .before .before .before .read .given .0 .0) (c .before .before .before .before .read .given .0 .1 .0) (sym (c .before .before .before .before .before .before .number .ensures) ∙ c .before .before .before .before .read .given .1) (search needs) (c .if2 .taken)
+    let at-read = c .before .before .before .before in
+    let at-number = at-read .before .before in
+    let start = at-number .before .before in
+    let a = start .args in
+    ended (a .s .now) (a .at) (a .end) (at-read .read .given .0 .0) (at-read .read .given .0 .1 .0) (sym (at-number .number .ensures) ∙ at-read .read .given .1) (search needs) (c .if2 .taken)
 
 returns-3 : tie.Need-returns-3
 returns-3 c =
-    let a = c .before .before .before .before .before .before .before .before .args in
-    other-end (a .s .now) (a .at) (a .end) (c .before .before .before .before .read .given .0 .0) (c .before .before .before .before .read .given .0 .1 .0) (sym (c .before .before .before .before .before .before .number .ensures) ∙ c .before .before .before .before .read .given .1) (search needs) (c .if2 .left)
+    let at-read = c .before .before .before .before in
+    let at-number = at-read .before .before in
+    let start = at-number .before .before in
+    let a = start .args in
+    other-end (a .s .now) (a .at) (a .end) (at-read .read .given .0 .0) (at-read .read .given .0 .1 .0) (sym (at-number .number .ensures) ∙ at-read .read .given .1) (search needs) (c .if2 .left)
 
 returns-4 : tie.Need-returns-4
 returns-4 c =
-    let a = c .before .before .before .before .before .before .args in
-    no-end (a .s .now) (a .at) (a .end) (c .before .before .read .given .0 .0) (c .before .before .read .given .0 .1 .0) (sym (c .before .before .before .before .number .ensures) ∙ c .before .before .read .given .1) (c .if1 .left)
+    let at-read = c .before .before in
+    let at-number = at-read .before .before in
+    let start = at-number .before .before in
+    let a = start .args in
+    no-end (a .s .now) (a .at) (a .end) (at-read .read .given .0 .0) (at-read .read .given .0 .1 .0) (sym (at-number .number .ensures) ∙ at-read .read .given .1) (c .if1 .left)
 
 pub field-spec : {M : Type 1} → statement M
 field-spec =

@@ -46,8 +46,12 @@ same-length c = c .before .before .before .before .before .loop .inv .1 .0
 
 returns : tie.Need-returns Inv-loop μ-loop
 returns c =
-    let a = c .before .before .before .before .before .before .before .before .args in
-    (good-fails (a .s .now) (length (c .before .before .before .before .before .loop .out)) (c .before .before .before .before .before .loop .i) (c .before .before .before .before .before .loop .at) (search needs) (ap (fieldAt (a .s .now) (c .before .before .before .before .before .loop .at)) (sym (c .before .before .before .byte-after .ensures)) ∙ (sym (c .before .before .field .ensures) ∙ c .enum-told .given .1)) ∙ c .before .before .before .before .before .loop .inv .1 .1 .0, words-fail (a .s .now) (length (c .before .before .before .before .before .loop .out)) (c .before .before .before .before .before .loop .i) (c .before .before .before .before .before .loop .at) (search needs) (ap (fieldAt (a .s .now) (c .before .before .before .before .before .loop .at)) (sym (c .before .before .before .byte-after .ensures)) ∙ (sym (c .before .before .field .ensures) ∙ c .enum-told .given .1)) (c .before .before .before .before .before .loop .out) ∙ c .before .before .before .before .before .loop .inv .1 .1 .1)
+    let at-field = c .before .before in
+    let at-byte-after = at-field .before in
+    let at-loop = at-byte-after .before .before in
+    let start = at-loop .before .before .before in
+    let a = start .args in
+    (good-fails (a .s .now) (length (at-loop .loop .out)) (at-loop .loop .i) (at-loop .loop .at) (search needs) (ap (fieldAt (a .s .now) (at-loop .loop .at)) (sym (at-byte-after .byte-after .ensures)) ∙ (sym (at-field .field .ensures) ∙ c .enum-told .given .1)) ∙ at-loop .loop .inv .1 .1 .0, words-fail (a .s .now) (length (at-loop .loop .out)) (at-loop .loop .i) (at-loop .loop .at) (search needs) (ap (fieldAt (a .s .now) (at-loop .loop .at)) (sym (at-byte-after .byte-after .ensures)) ∙ (sym (at-field .field .ensures) ∙ c .enum-told .given .1)) (at-loop .loop .out) ∙ at-loop .loop .inv .1 .1 .1)
 
 mul-out : tie.Need-mul-out Inv-loop μ-loop
 mul-out c = search needs
@@ -63,14 +67,18 @@ loop-less c = rw length-set (omega arith)
 
 loop-again : tie.Need-loop-again Inv-loop μ-loop
 loop-again c =
-    let a = c .before .before .before .before .before .before .before .before .before .args in
+    let at-field = c .before .before .before in
+    let at-byte-after = at-field .before in
+    let at-loop = at-byte-after .before .before in
+    let start = at-loop .before .before .before in
+    let a = start .args in
     rw length-set (
       omega arith,
       (
-        c .before .before .before .before .before .before .loop .inv .1 .0,
+        at-loop .loop .inv .1 .0,
         (
-          sym (good-step (a .s .now) (length (c .before .before .before .before .before .before .loop .out)) (c .before .before .before .before .before .before .loop .i) (c .before .before .before .before .before .before .loop .at) (search needs) (c .before .read .given .0 .0) (c .before .read .given .0 .1 .0) (ap (fieldAt (a .s .now) (c .before .before .before .before .before .before .loop .at)) (sym (c .before .before .before .before .byte-after .ensures)) ∙ (sym (c .before .before .before .field .ensures) ∙ c .before .read .given .1))) ∙ c .before .before .before .before .before .before .loop .inv .1 .1 .0,
-          sym (words-step (a .s .now) (length (c .before .before .before .before .before .before .loop .out)) (c .before .before .before .before .before .before .loop .i) (c .before .before .before .before .before .before .loop .at) (search needs) (c .before .read .given .0 .0) (c .before .read .given .0 .1 .0) (ap (fieldAt (a .s .now) (c .before .before .before .before .before .before .loop .at)) (sym (c .before .before .before .before .byte-after .ensures)) ∙ (sym (c .before .before .before .field .ensures) ∙ c .before .read .given .1)) (c .before .before .before .before .before .before .loop .out)) ∙ c .before .before .before .before .before .before .loop .inv .1 .1 .1,
+          sym (good-step (a .s .now) (length (at-loop .loop .out)) (at-loop .loop .i) (at-loop .loop .at) (search needs) (c .before .read .given .0 .0) (c .before .read .given .0 .1 .0) (ap (fieldAt (a .s .now) (at-loop .loop .at)) (sym (at-byte-after .byte-after .ensures)) ∙ (sym (at-field .field .ensures) ∙ c .before .read .given .1))) ∙ at-loop .loop .inv .1 .1 .0,
+          sym (words-step (a .s .now) (length (at-loop .loop .out)) (at-loop .loop .i) (at-loop .loop .at) (search needs) (c .before .read .given .0 .0) (c .before .read .given .0 .1 .0) (ap (fieldAt (a .s .now) (at-loop .loop .at)) (sym (at-byte-after .byte-after .ensures)) ∙ (sym (at-field .field .ensures) ∙ c .before .read .given .1)) (at-loop .loop .out)) ∙ at-loop .loop .inv .1 .1 .1,
         ),
       ),
     )
@@ -79,7 +87,9 @@ same-length-2 : tie.Need-same-length-2 Inv-loop μ-loop
 same-length-2 c = c .before .loop .inv .1 .0
 
 returns-2 : tie.Need-returns-2 Inv-loop μ-loop
-returns-2 c = (good-done (c .before .before .before .before .args .s .now) (length (c .before .loop .out)) (c .before .loop .i) (c .before .loop .at) (search needs) ∙ c .before .loop .inv .1 .1 .0, words-done (c .before .before .before .before .args .s .now) (length (c .before .loop .out)) (c .before .loop .i) (c .before .loop .at) (search needs) (c .before .loop .out) ∙ c .before .loop .inv .1 .1 .1)
+returns-2 c =
+    let start = c .before .before .before .before in
+    (good-done (start .args .s .now) (length (c .before .loop .out)) (c .before .loop .i) (c .before .loop .at) (search needs) ∙ c .before .loop .inv .1 .1 .0, words-done (start .args .s .now) (length (c .before .loop .out)) (c .before .loop .i) (c .before .loop .at) (search needs) (c .before .loop .out) ∙ c .before .loop .inv .1 .1 .1)
 
 pub fields-spec : {M : Type 1} → statement M
 fields-spec =

@@ -22,16 +22,30 @@ digit-at-requires : tie.Need-digit-at-requires Inv-loop μ-loop
 digit-at-requires c κs = search needs
 
 shared-slice-read-wide : tie.Need-shared-slice-read-wide Inv-loop μ-loop
-shared-slice-read-wide c = digit (c .before .before .before .before .before .args .s .now) (c .before .before .before .loop .i) (sym (c .before .before .digit-at .ensures) ∙ c .before .if1 .taken) .within
+shared-slice-read-wide c =
+    let at-digit-at = c .before .before in
+    let at-loop = at-digit-at .before in
+    let start = at-loop .before .before in
+    digit (start .args .s .now) (at-loop .loop .i) (sym (at-digit-at .digit-at .ensures) ∙ c .before .if1 .taken) .within
 
 wide-requires : tie.Need-wide-requires Inv-loop μ-loop
 wide-requires c κs = search needs
 
 sub-digit : tie.Need-sub-digit Inv-loop μ-loop
-sub-digit c = omega (arith, digit (c .before .before .before .before .before .before .args .s .now) (c .before .before .before .before .loop .i) (sym (c .before .before .before .digit-at .ensures) ∙ c .before .before .if1 .taken) .low, c .wide .ensures)
+sub-digit c =
+    let at-if1 = c .before .before in
+    let at-digit-at = at-if1 .before in
+    let at-loop = at-digit-at .before in
+    let start = at-loop .before .before in
+    omega (arith, digit (start .args .s .now) (at-loop .loop .i) (sym (at-digit-at .digit-at .ensures) ∙ at-if1 .if1 .taken) .low, c .wide .ensures)
 
 sub-if2 : tie.Need-sub-if2 Inv-loop μ-loop
-sub-if2 c = omega (arith, digit (c .before .before .before .before .before .before .args .s .now) (c .before .before .before .before .loop .i) (sym (c .before .before .before .digit-at .ensures) ∙ c .before .before .if1 .taken) .high, c .wide .ensures)
+sub-if2 c =
+    let at-if1 = c .before .before in
+    let at-digit-at = at-if1 .before in
+    let at-loop = at-digit-at .before in
+    let start = at-loop .before .before in
+    omega (arith, digit (start .args .s .now) (at-loop .loop .i) (sym (at-digit-at .digit-at .ensures) ∙ at-if1 .if1 .taken) .high, c .wide .ensures)
 
 returns : tie.Need-returns Inv-loop μ-loop
 returns c =
@@ -47,13 +61,28 @@ mul-value : tie.Need-mul-value Inv-loop μ-loop
 mul-value c = omega (arith, c .if2 .left)
 
 add-value : tie.Need-add-value Inv-loop μ-loop
-add-value c = omega (arith, c .if2 .left, digit (c .before .before .before .before .before .before .before .args .s .now) (c .before .before .before .before .before .loop .i) (sym (c .before .before .before .before .digit-at .ensures) ∙ c .before .before .before .if1 .taken) .high, c .before .wide .ensures)
+add-value c =
+    let at-if1 = c .before .before .before in
+    let at-digit-at = at-if1 .before in
+    let at-loop = at-digit-at .before in
+    let start = at-loop .before .before in
+    omega (arith, c .if2 .left, digit (start .args .s .now) (at-loop .loop .i) (sym (at-digit-at .digit-at .ensures) ∙ at-if1 .if1 .taken) .high, c .before .wide .ensures)
 
 add-i : tie.Need-add-i Inv-loop μ-loop
-add-i c = omega (arith, digit (c .before .before .before .before .before .before .before .args .s .now) (c .before .before .before .before .before .loop .i) (sym (c .before .before .before .before .digit-at .ensures) ∙ c .before .before .before .if1 .taken) .within)
+add-i c =
+    let at-if1 = c .before .before .before in
+    let at-digit-at = at-if1 .before in
+    let at-loop = at-digit-at .before in
+    let start = at-loop .before .before in
+    omega (arith, digit (start .args .s .now) (at-loop .loop .i) (sym (at-digit-at .digit-at .ensures) ∙ at-if1 .if1 .taken) .within)
 
 loop-less : tie.Need-loop-less Inv-loop μ-loop
-loop-less c = omega (arith, digit (c .before .before .before .before .before .before .before .args .s .now) (c .before .before .before .before .before .loop .i) (sym (c .before .before .before .before .digit-at .ensures) ∙ c .before .before .before .if1 .taken) .within)
+loop-less c =
+    let at-if1 = c .before .before .before in
+    let at-digit-at = at-if1 .before in
+    let at-loop = at-digit-at .before in
+    let start = at-loop .before .before in
+    omega (arith, digit (start .args .s .now) (at-loop .loop .i) (sym (at-digit-at .digit-at .ensures) ∙ at-if1 .if1 .taken) .within)
 
 loop-again : tie.Need-loop-again Inv-loop μ-loop
 loop-again c =
@@ -75,10 +104,13 @@ returns-2 c =
 
 returns-3 : tie.Need-returns-3 Inv-loop μ-loop
 returns-3 c =
-    let s = c .before .before .before .before .before .args .s .now in
-    let value = c .before .before .before .loop .value in
-    let stop = stops s (c .before .before .before .loop .i) value (sym (c .before .before .digit-at .ensures) ∙ c .before .if1 .left) in
-    found s (c .before .before .before .before .before .args .at) value (c .before .before .before .loop .i) (sym (stop .1) ∙ c .before .before .before .loop .inv .1 .0) (omega (arith, c .before .before .before .loop .inv .1 .1 .0, c .before .before .before .loop .inv .0, stop .0)) (omega (arith, c .before .before .before .loop .inv .0, c .if3 .left)) (omega arith)
+    let at-digit-at = c .before .before in
+    let at-loop = at-digit-at .before in
+    let start = at-loop .before .before in
+    let s = start .args .s .now in
+    let value = at-loop .loop .value in
+    let stop = stops s (at-loop .loop .i) value (sym (at-digit-at .digit-at .ensures) ∙ c .before .if1 .left) in
+    found s (start .args .at) value (at-loop .loop .i) (sym (stop .1) ∙ at-loop .loop .inv .1 .0) (omega (arith, at-loop .loop .inv .1 .1 .0, at-loop .loop .inv .0, stop .0)) (omega (arith, at-loop .loop .inv .0, c .if3 .left)) (omega arith)
 
 pub number-spec : {M : Type 1} → statement M
 number-spec =

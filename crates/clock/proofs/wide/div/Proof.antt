@@ -48,8 +48,9 @@ div-t8 c = search needs
 
 add-t9 : tie.Need-add-t9
 add-t9 c =
-    let a = c .before .before .before .before .args in
-    omega (arith, digit-fits (a .w .high) (a .w .low / 2 ^ 32) (a .d) (2 ^ 32) (c .before .before .before .before .pre .0) (omega arith), digit-fits (a .w .high % a .d * 2 ^ 32 + a .w .low / 2 ^ 32) (a .w .low % 2 ^ 32) (a .d) (2 ^ 32) (c .before .before .before .before .pre .0) (omega arith))
+    let start = c .before .before .before .before in
+    let a = start .args in
+    omega (arith, digit-fits (a .w .high) (a .w .low / 2 ^ 32) (a .d) (2 ^ 32) (start .pre .0) (omega arith), digit-fits (a .w .high % a .d * 2 ^ 32 + a .w .low / 2 ^ 32) (a .w .low % 2 ^ 32) (a .d) (2 ^ 32) (start .pre .0) (omega arith))
 
 rem-t11 : tie.Need-rem-t11
 rem-t11 c = search needs

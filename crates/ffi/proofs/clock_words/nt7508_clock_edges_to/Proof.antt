@@ -13,7 +13,10 @@ counted-requires : tie.Need-counted-requires
 counted-requires c κs = search needs
 
 returns : tie.Need-returns
-returns c = (simp (c .counted .ensures .0, c .before .before .edges-to .ensures, c .before .before .before .clock-of .ensures), simp (c .counted .ensures .1, c .before .before .edges-to .ensures, c .before .before .before .clock-of .ensures))
+returns c =
+    let at-edges-to = c .before .before in
+    let at-clock-of = at-edges-to .before in
+    (simp (c .counted .ensures .0, at-edges-to .edges-to .ensures, at-clock-of .clock-of .ensures), simp (c .counted .ensures .1, at-edges-to .edges-to .ensures, at-clock-of .clock-of .ensures))
 
 pub nt7508-clock-edges-to-spec : {M : Type 1} → statement M
 nt7508-clock-edges-to-spec =

@@ -13,7 +13,10 @@ made-requires : tie.Need-made-requires
 made-requires c κs = search needs
 
 returns : tie.Need-returns
-returns c = (simp (c .made .ensures .0, c .before .before .moved .ensures, c .before .before .before .clock-of .ensures), simp (c .made .ensures .1, c .before .before .moved .ensures, c .before .before .before .clock-of .ensures))
+returns c =
+    let at-moved = c .before .before in
+    let at-clock-of = at-moved .before in
+    (simp (c .made .ensures .0, at-moved .moved .ensures, at-clock-of .clock-of .ensures), simp (c .made .ensures .1, at-moved .moved .ensures, at-clock-of .clock-of .ensures))
 
 pub nt7508-clock-moved-spec : {M : Type 1} → statement M
 nt7508-clock-moved-spec =

@@ -20,7 +20,13 @@ put-drive-requires : tie.Need-put-drive-requires
 put-drive-requires c κs = search needs
 
 returns : tie.Need-returns
-returns c = (simp (c .put-drive .ensures .0, c .before .before .before .drive .ensures, c .before .before .before .before .settings-of2 .ensures, c .before .before .before .before .before .settings-of .ensures, c .before .before .before .before .before .before .scan-of .ensures, toZ-ofZ (c .before .before .before .before .before .before .before .before .before .fits .temperature)), simp (c .put-drive .ensures .1, c .before .before .before .drive .ensures, c .before .before .before .before .settings-of2 .ensures, c .before .before .before .before .before .settings-of .ensures, c .before .before .before .before .before .before .scan-of .ensures, toZ-ofZ (c .before .before .before .before .before .before .before .before .before .fits .temperature)))
+returns c =
+    let at-drive = c .before .before .before in
+    let at-settings-of2 = at-drive .before in
+    let at-settings-of = at-settings-of2 .before in
+    let at-scan-of = at-settings-of .before in
+    let start = at-scan-of .before .before .before in
+    (simp (c .put-drive .ensures .0, at-drive .drive .ensures, at-settings-of2 .settings-of2 .ensures, at-settings-of .settings-of .ensures, at-scan-of .scan-of .ensures, toZ-ofZ (start .fits .temperature)), simp (c .put-drive .ensures .1, at-drive .drive .ensures, at-settings-of2 .settings-of2 .ensures, at-settings-of .settings-of .ensures, at-scan-of .scan-of .ensures, toZ-ofZ (start .fits .temperature)))
 
 pub nt7508-scan-drive-spec : {M : Type 1} → statement M
 nt7508-scan-drive-spec =

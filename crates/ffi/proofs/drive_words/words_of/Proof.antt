@@ -49,7 +49,12 @@ array-read-t38 : tie.Need-array-read-t38
 array-read-t38 c = search needs
 
 returns : tie.Need-returns
-returns c = simp (c .before .before .before .before .before .words-of .ensures, c .before .before .before .before .common-word .ensures, c .before .before .wide .ensures, c .before .before .before .flag-byte .ensures, c .wide2 .ensures, c .before .flag-byte2 .ensures)
+returns c =
+    let at-wide = c .before .before in
+    let at-flag-byte = at-wide .before in
+    let at-common-word = at-flag-byte .before in
+    let at-words-of = at-common-word .before in
+    simp (at-words-of .words-of .ensures, at-common-word .common-word .ensures, at-wide .wide .ensures, at-flag-byte .flag-byte .ensures, c .wide2 .ensures, c .before .flag-byte2 .ensures)
 
 pub words-of-spec : {M : Type 1} → statement M
 words-of-spec =

@@ -19,7 +19,12 @@ put-scan-requires : tie.Need-put-scan-requires
 put-scan-requires c κs = search needs
 
 returns : tie.Need-returns
-returns c = (simp (c .put-scan .ensures .0, c .before .before .before .before .before .before .count-to .ensures, c .before .before .before .before .before .before .before .settings-of .ensures, c .before .before .before .before .before .before .before .before .scan-of .ensures), (simp (c .before .before .before .put-pieces .ensures, c .before .before .before .before .before .before .count-to .ensures, c .before .before .before .before .before .before .before .settings-of .ensures, c .before .before .before .before .before .before .before .before .scan-of .ensures), (simp (c .put-scan .ensures .1 .0, c .before .before .before .before .before .before .count-to .ensures, c .before .before .before .before .before .before .before .settings-of .ensures, c .before .before .before .before .before .before .before .before .scan-of .ensures), simp (c .put-scan .ensures .1 .1, c .before .before .before .before .before .before .count-to .ensures, c .before .before .before .before .before .before .before .settings-of .ensures, c .before .before .before .before .before .before .before .before .scan-of .ensures))))
+returns c =
+    let at-put-pieces = c .before .before .before in
+    let at-count-to = at-put-pieces .before .before .before in
+    let at-settings-of = at-count-to .before in
+    let at-scan-of = at-settings-of .before in
+    (simp (c .put-scan .ensures .0, at-count-to .count-to .ensures, at-settings-of .settings-of .ensures, at-scan-of .scan-of .ensures), (simp (at-put-pieces .put-pieces .ensures, at-count-to .count-to .ensures, at-settings-of .settings-of .ensures, at-scan-of .scan-of .ensures), (simp (c .put-scan .ensures .1 .0, at-count-to .count-to .ensures, at-settings-of .settings-of .ensures, at-scan-of .scan-of .ensures), simp (c .put-scan .ensures .1 .1, at-count-to .count-to .ensures, at-settings-of .settings-of .ensures, at-scan-of .scan-of .ensures))))
 
 pub nt7508-scan-count-to-spec : {M : Type 1} → statement M
 nt7508-scan-count-to-spec =

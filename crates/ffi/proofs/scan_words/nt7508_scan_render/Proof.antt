@@ -16,7 +16,10 @@ same-length : tie.Need-same-length
 same-length c = search needs
 
 returns : tie.Need-returns
-returns c = (simp (c .checked .ensures, c .before .before .before .render .ensures .0, c .before .before .before .before .before .settings-of .ensures), simp (c .before .before .before .render .ensures .1, c .before .before .before .before .before .settings-of .ensures))
+returns c =
+    let at-render = c .before .before .before in
+    let at-settings-of = at-render .before .before in
+    (simp (c .checked .ensures, at-render .render .ensures .0, at-settings-of .settings-of .ensures), simp (at-render .render .ensures .1, at-settings-of .settings-of .ensures))
 
 pub nt7508-scan-render-spec : {M : Type 1} → statement M
 nt7508-scan-render-spec =

@@ -19,7 +19,12 @@ put-scan-requires : tie.Need-put-scan-requires
 put-scan-requires c κs = search needs
 
 returns : tie.Need-returns
-returns c = (simp (c .put-scan .ensures .0, c .before .before .before .before .retain .ensures, c .before .before .before .before .before .page-of .ensures, c .before .before .before .before .before .before .settings-of .ensures, c .before .before .before .before .before .before .before .scan-of .ensures), (simp (c .put-scan .ensures .1 .0, c .before .before .before .before .retain .ensures, c .before .before .before .before .before .page-of .ensures, c .before .before .before .before .before .before .settings-of .ensures, c .before .before .before .before .before .before .before .scan-of .ensures), simp (c .put-scan .ensures .1 .1, c .before .before .before .before .retain .ensures, c .before .before .before .before .before .page-of .ensures, c .before .before .before .before .before .before .settings-of .ensures, c .before .before .before .before .before .before .before .scan-of .ensures)))
+returns c =
+    let at-retain = c .before .before .before .before in
+    let at-page-of = at-retain .before in
+    let at-settings-of = at-page-of .before in
+    let at-scan-of = at-settings-of .before in
+    (simp (c .put-scan .ensures .0, at-retain .retain .ensures, at-page-of .page-of .ensures, at-settings-of .settings-of .ensures, at-scan-of .scan-of .ensures), (simp (c .put-scan .ensures .1 .0, at-retain .retain .ensures, at-page-of .page-of .ensures, at-settings-of .settings-of .ensures, at-scan-of .scan-of .ensures), simp (c .put-scan .ensures .1 .1, at-retain .retain .ensures, at-page-of .page-of .ensures, at-settings-of .settings-of .ensures, at-scan-of .scan-of .ensures)))
 
 pub nt7508-scan-retain-spec : {M : Type 1} → statement M
 nt7508-scan-retain-spec =

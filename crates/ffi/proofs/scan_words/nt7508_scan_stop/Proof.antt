@@ -13,7 +13,10 @@ put-scan-requires : tie.Need-put-scan-requires
 put-scan-requires c κs = search needs
 
 returns : tie.Need-returns
-returns c = (simp (c .put-scan .ensures .0, c .before .before .before .before .stop .ensures, c .before .before .before .before .before .scan-of .ensures), (simp (c .put-scan .ensures .1 .0, c .before .before .before .before .stop .ensures, c .before .before .before .before .before .scan-of .ensures), simp (c .put-scan .ensures .1 .1, c .before .before .before .before .stop .ensures, c .before .before .before .before .before .scan-of .ensures)))
+returns c =
+    let at-stop = c .before .before .before .before in
+    let at-scan-of = at-stop .before in
+    (simp (c .put-scan .ensures .0, at-stop .stop .ensures, at-scan-of .scan-of .ensures), (simp (c .put-scan .ensures .1 .0, at-stop .stop .ensures, at-scan-of .scan-of .ensures), simp (c .put-scan .ensures .1 .1, at-stop .stop .ensures, at-scan-of .scan-of .ensures)))
 
 pub nt7508-scan-stop-spec : {M : Type 1} → statement M
 nt7508-scan-stop-spec =

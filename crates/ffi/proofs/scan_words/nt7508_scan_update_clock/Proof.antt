@@ -16,7 +16,11 @@ put-scan-requires : tie.Need-put-scan-requires
 put-scan-requires c κs = search needs
 
 returns : tie.Need-returns
-returns c = (simp (c .put-scan .ensures .0, c .before .before .before .before .update-clock .ensures, c .before .before .before .before .before .settings-of .ensures, c .before .before .before .before .before .before .scan-of .ensures), (simp (c .put-scan .ensures .1 .0, c .before .before .before .before .update-clock .ensures, c .before .before .before .before .before .settings-of .ensures, c .before .before .before .before .before .before .scan-of .ensures), rw (c .put-scan .ensures .1 .1, c .before .before .before .before .update-clock .ensures, c .before .before .before .before .before .settings-of .ensures, c .before .before .before .before .before .before .scan-of .ensures)))
+returns c =
+    let at-update-clock = c .before .before .before .before in
+    let at-settings-of = at-update-clock .before in
+    let at-scan-of = at-settings-of .before in
+    (simp (c .put-scan .ensures .0, at-update-clock .update-clock .ensures, at-settings-of .settings-of .ensures, at-scan-of .scan-of .ensures), (simp (c .put-scan .ensures .1 .0, at-update-clock .update-clock .ensures, at-settings-of .settings-of .ensures, at-scan-of .scan-of .ensures), rw (c .put-scan .ensures .1 .1, at-update-clock .update-clock .ensures, at-settings-of .settings-of .ensures, at-scan-of .scan-of .ensures)))
 
 pub nt7508-scan-update-clock-spec : {M : Type 1} → statement M
 nt7508-scan-update-clock-spec =

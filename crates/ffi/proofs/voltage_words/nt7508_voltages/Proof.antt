@@ -14,7 +14,11 @@ put-requires : tie.Need-put-requires
 put-requires c κs = search needs
 
 returns : tie.Need-returns
-returns c = (simp (c .put .ensures .0, c .before .before .voltages .ensures, c .before .before .before .settings-of .ensures, toZ-ofZ (c .before .before .before .before .fits .temperature)), simp (c .put .ensures .1, c .before .before .voltages .ensures, c .before .before .before .settings-of .ensures, toZ-ofZ (c .before .before .before .before .fits .temperature)))
+returns c =
+    let at-voltages = c .before .before in
+    let at-settings-of = at-voltages .before in
+    let start = at-settings-of .before in
+    (simp (c .put .ensures .0, at-voltages .voltages .ensures, at-settings-of .settings-of .ensures, toZ-ofZ (start .fits .temperature)), simp (c .put .ensures .1, at-voltages .voltages .ensures, at-settings-of .settings-of .ensures, toZ-ofZ (start .fits .temperature)))
 
 pub nt7508-voltages-spec : {M : Type 1} → statement M
 nt7508-voltages-spec =

@@ -25,7 +25,12 @@ word-of-requires-6 : tie.Need-word-of-requires-6
 word-of-requires-6 c κs = search needs
 
 returns : tie.Need-returns
-returns c = simp (c .before .before .before .before .before .word-of .ensures, c .before .before .before .before .word-of2 .ensures, c .before .before .before .word-of3 .ensures, c .before .before .word-of4 .ensures, c .before .word-of5 .ensures, c .word-of6 .ensures)
+returns c =
+    let at-word-of4 = c .before .before in
+    let at-word-of3 = at-word-of4 .before in
+    let at-word-of2 = at-word-of3 .before in
+    let at-word-of = at-word-of2 .before in
+    simp (at-word-of .word-of .ensures, at-word-of2 .word-of2 .ensures, at-word-of3 .word-of3 .ensures, at-word-of4 .word-of4 .ensures, c .before .word-of5 .ensures, c .word-of6 .ensures)
 
 pub words-of-spec : {M : Type 1} → statement M
 words-of-spec =

@@ -19,7 +19,11 @@ plus-requires-3 : tie.Need-plus-requires-3
 plus-requires-3 c κs = search needs
 
 returns : tie.Need-returns
-returns c = (simp (c .before .before .before .before .next-line .ensures .0, c .before .before .before .plus .ensures, c .before .before .cases-at .ensures, c .before .plus2 .ensures, c .plus3 .ensures), c .before .before .before .before .next-line .ensures .1)
+returns c =
+    let at-cases-at = c .before .before in
+    let at-plus = at-cases-at .before in
+    let at-next-line = at-plus .before in
+    (simp (at-next-line .next-line .ensures .0, at-plus .plus .ensures, at-cases-at .cases-at .ensures, c .before .plus2 .ensures, c .plus3 .ensures), at-next-line .next-line .ensures .1)
 
 pub next-spec : {M : Type 1} → statement M
 next-spec =

@@ -85,17 +85,25 @@ flip-requires c κs = search needs
 returns-2 : tie.Need-returns-2
 unfolding closed after
 returns-2 c =
-    let e = simp (c .before .before .before .before .before .before .before .before .before .wide .ensures, c .before .before .before .before .before .before .before .before .wide2 .ensures) at (ne-eqb _ _ (c .before .before .before .before .before .before .before .if1 .left)) in
-    let f = simp (c .before .before .before .before .before .before .before .before .before .wide .ensures, c .before .before .before .before .before .before .before .before .wide2 .ensures, c .before .before .before .before .before .before .wide3 .ensures, c .before .before .before .before .before .rows-of .ensures) at (eq-eqb _ _ (c .if2 .taken)) in
+    let at-count-taken = c .before .before in
+    let at-pwm-of = at-count-taken .before in
+    let at-flips-in = at-pwm-of .before in
+    let at-rows-of = at-flips-in .before in
+    let at-wide3 = at-rows-of .before in
+    let at-if1 = at-wide3 .before in
+    let at-wide2 = at-if1 .before in
+    let at-wide = at-wide2 .before in
+    let e = simp (at-wide .wide .ensures, at-wide2 .wide2 .ensures) at (ne-eqb _ _ (at-if1 .if1 .left)) in
+    let f = simp (at-wide .wide .ensures, at-wide2 .wide2 .ensures, at-wide3 .wide3 .ensures, at-rows-of .rows-of .ensures) at (eq-eqb _ _ (c .if2 .taken)) in
     simp (
-      c .before .before .before .before .before .before .before .before .before .wide .ensures,
-      c .before .before .before .before .before .before .before .before .wide2 .ensures,
-      c .before .before .before .before .before .before .wide3 .ensures,
-      c .before .before .before .before .before .rows-of .ensures,
-      c .before .before .before .before .flips-in .ensures,
+      at-wide .wide .ensures,
+      at-wide2 .wide2 .ensures,
+      at-wide3 .wide3 .ensures,
+      at-rows-of .rows-of .ensures,
+      at-flips-in .flips-in .ensures,
       c .before .flip .ensures,
-      c .before .before .count-taken .ensures,
-      c .before .before .before .pwm-of .ensures,
+      at-count-taken .count-taken .ensures,
+      at-pwm-of .pwm-of .ensures,
       e,
       f,
     )
@@ -108,42 +116,64 @@ wide-requires-4 c κs = search needs
 
 add-next : tie.Need-add-next
 add-next c =
-    let a = c .before .before .before .before .before .before .before .before .before .before .before .before .args in
-    let v = valid-scan (a .scan) (c .before .before .before .before .before .before .before .before .before .before .before .before .pre .0) in
+    let at-rows-of = c .before .before .before .before .before .before .before in
+    let at-wide3 = at-rows-of .before in
+    let at-wide2 = at-wide3 .before .before in
+    let at-wide = at-wide2 .before in
+    let start = at-wide .before in
+    let a = start .args in
+    let v = valid-scan (a .scan) (start .pre .0) in
     let q = frc-count-le (a .scan .«frc_count») (v .frc-count-ok) in
     let r = rows-high (a .scan .duty) (a .scan .icon) in
-    let n = c .before .before .before .before .before .before .before .before .before .before .before .before .pre .1 in
-    simp (c .before .before .before .before .before .before .before .before .before .before .before .wide .ensures, c .before .before .before .before .before .before .before .before .before .before .wide2 .ensures, c .before .before .before .before .before .before .before .before .wide3 .ensures, c .wide4 .ensures, c .before .before .before .before .before .before .before .rows-of .ensures)
+    let n = start .pre .1 in
+    simp (at-wide .wide .ensures, at-wide2 .wide2 .ensures, at-wide3 .wide3 .ensures, c .wide4 .ensures, at-rows-of .rows-of .ensures)
     (record {
-      fits = frames-fit _ _ _ _ _ (omega (arith, v .frc-below)) (omega (arith, v .row-below, v .duty-high)) (omega (arith, c .before .before .before .before .before .before .before .before .before .before .before .before .fits .n, v .step-below, pwm-small (a .scan .pwm) (v .pwm-ok)));
+      fits = frames-fit _ _ _ _ _ (omega (arith, v .frc-below)) (omega (arith, v .row-below, v .duty-high)) (omega (arith, start .fits .n, v .step-below, pwm-small (a .scan .pwm) (v .pwm-ok)));
     })
 
 wide-requires-5 : tie.Need-wide-requires-5
 wide-requires-5 c κs = search needs
 
 rem-next : tie.Need-rem-next
-rem-next c = simp (c .wide5 .ensures, c .before .before .frc-count-of .ensures) (frc-count-pos _ (frc-count-of-ok (c .before .before .before .before .before .before .before .before .before .before .before .before .before .args .settings .«gray_mode»)))
+rem-next c =
+    let at-frc-count-of = c .before .before in
+    let start = at-frc-count-of .before .before .before .before .before .before .before .before .before .before .before in
+    simp (c .wide5 .ensures, at-frc-count-of .frc-count-of .ensures) (frc-count-pos _ (frc-count-of-ok (start .args .settings .«gray_mode»)))
 
 cast-next : tie.Need-cast-next
-cast-next c = simp (c .wide5 .ensures, c .before .before .frc-count-of .ensures) (record { fits = mod-fits _ _ (frc-count-pos _ (frc-count-of-ok (c .before .before .before .before .before .before .before .before .before .before .before .before .before .args .settings .«gray_mode»))) (frc-count-small (c .before .before .before .before .before .before .before .before .before .before .before .before .before .args .settings .«gray_mode»)) })
+cast-next c =
+    let at-frc-count-of = c .before .before in
+    let start = at-frc-count-of .before .before .before .before .before .before .before .before .before .before .before in
+    simp (c .wide5 .ensures, at-frc-count-of .frc-count-of .ensures) (record { fits = mod-fits _ _ (frc-count-pos _ (frc-count-of-ok (start .args .settings .«gray_mode»))) (frc-count-small (start .args .settings .«gray_mode»)) })
 
 returns-3 : tie.Need-returns-3
 unfolding closed after
 returns-3 c =
-    let e = simp (c .before .before .before .before .before .before .before .before .before .before .before .before .wide .ensures, c .before .before .before .before .before .before .before .before .before .before .before .wide2 .ensures) at (ne-eqb _ _ (c .before .before .before .before .before .before .before .before .before .before .if1 .left)) in
-    let f = simp (c .before .before .before .before .before .before .before .before .before .before .before .before .wide .ensures, c .before .before .before .before .before .before .before .before .before .before .before .wide2 .ensures, c .before .before .before .before .before .before .before .before .before .wide3 .ensures, c .before .before .before .before .before .before .before .before .rows-of .ensures) at (ne-eqb _ _ (c .before .before .before .if2 .left)) in
+    let at-frc-count-of = c .before .before in
+    let at-if2 = at-frc-count-of .before in
+    let at-flip = at-if2 .before in
+    let at-count-taken = at-flip .before in
+    let at-pwm-of = at-count-taken .before in
+    let at-flips-in = at-pwm-of .before in
+    let at-rows-of = at-flips-in .before in
+    let at-wide3 = at-rows-of .before in
+    let at-if1 = at-wide3 .before in
+    let at-wide2 = at-if1 .before in
+    let at-wide = at-wide2 .before in
+    let e = simp (at-wide .wide .ensures, at-wide2 .wide2 .ensures) at (ne-eqb _ _ (at-if1 .if1 .left)) in
+    let f = simp (at-wide .wide .ensures, at-wide2 .wide2 .ensures, at-wide3 .wide3 .ensures, at-rows-of .rows-of .ensures) at (ne-eqb _ _ (at-if2 .if2 .left)) in
     simp (
-      c .before .before .before .before .before .before .before .before .before .before .before .before .wide .ensures,
-      c .before .before .before .before .before .before .before .before .before .before .before .wide2 .ensures,
-      c .before .before .before .before .before .before .before .before .before .wide3 .ensures,
-      c .before .before .before .before .before .before .before .before .rows-of .ensures,
-      c .before .before .before .before .before .before .before .flips-in .ensures,
-      c .before .before .before .before .flip .ensures,
-      c .before .before .before .before .before .count-taken .ensures,
-      c .before .before .before .before .before .before .pwm-of .ensures,
+      at-wide .wide .ensures,
+      at-wide2 .wide2 .ensures,
+      at-wide3 .wide3 .ensures,
+      at-rows-of .rows-of .ensures,
+      at-flips-in .flips-in .ensures,
+      at-flip .flip .ensures,
+      at-count-taken .count-taken .ensures,
+      at-pwm-of .pwm-of .ensures,
       c .wide5 .ensures,
       c .before .wide4 .ensures,
-      c .before .before .frc-count-of .ensures,
+      at-frc-count-of .frc-count-of .ensures,
       e,
       f,
     )

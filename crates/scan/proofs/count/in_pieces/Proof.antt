@@ -1,11 +1,8 @@
 -- `scan::count::in_pieces` meets its contract.
-use mathlib.Core.Path.{_∙_, ap}
+use mathlib.Core.Path.{_∙_, refl}
+use native.Mathlib.Omega.{arith}
 use borrow.Author.Needs.{needs}
-use Rattle.clock.proofs.Tests.{failed, passed}
-use Rattle.scan.specs.declared.state.Check.{Check}
-use Rattle.scan.specs.declared.count.Piece.{Piece}
-use Rattle.scan.proofs.Checks.{valid-scan, valid-check, valid-settings}
-use Rattle.scan.proofs.Pieces.{none, one, two, three, all-four, valid-a, valid-b, valid-c}
+use Rattle.scan.proofs.Stages.{start, checked, next, last-done, fourth-done}
 use Rattle.scan.proofs.count.in_pieces.Statement.{statement}
 use Rattle.scan.proofs.count.in_pieces.Tie as tie
 
@@ -17,60 +14,74 @@ done-requires c κs = search needs
 
 returns : tie.Need-returns
 returns c =
-    let a = c .before .before .before .before .args in
-    let e = none (a .settings) (valid-settings (a .settings) (c .before .before .before .before .pre .1 .0)) (a .now) (c .before .before .before .before .pre .0) (a .scan) (valid-scan (a .scan) (c .before .before .before .before .pre .1 .1)) (c .before .before .before .piece-of .result .scan) (ap (λ (p : Piece). p .scan) (c .before .before .before .piece-of .ensures)) (failed (ap (λ (p : Piece). p .counted) (c .before .before .before .piece-of .ensures)) (c .before .if1 .taken)) in
-    c .done .ensures ∙ (λ j. record { check = Check.Passed; scan = e .0 j; pieces = e .1 j })
+    let p = c .before .before in
+    let g = p .before .pre in
+    c .done .ensures ∙ last-done _ _ _ g 0 (start _ _ _ g) (p .piece-of .ensures) (omega arith) (c .before .if1 .taken)
 
 piece-of-requires-2 : tie.Need-piece-of-requires-2
 piece-of-requires-2 c κs =
-    let a = c .before .before .before .before .args in
-    (c .before .before .before .before .pre .0, (c .before .before .before .before .pre .1 .0, valid-check _ (valid-a (a .settings) (valid-settings (a .settings) (c .before .before .before .before .pre .1 .0)) (a .now) (c .before .before .before .before .pre .0) (a .scan) (valid-scan (a .scan) (c .before .before .before .before .pre .1 .1)) (c .before .before .before .piece-of .result .scan) (ap (λ (p : Piece). p .scan) (c .before .before .before .piece-of .ensures)) (passed (ap (λ (p : Piece). p .counted) (c .before .before .before .piece-of .ensures)) (c .before .if1 .left)))))
+    let p = c .before .before in
+    let g = p .before .pre in
+    (g .0, (g .1 .0, checked _ _ _ g 1 (next _ _ _ g 0 (start _ _ _ g) (p .piece-of .ensures) (c .before .if1 .left))))
 
 done-requires-2 : tie.Need-done-requires-2
 done-requires-2 c κs = search needs
 
 returns-2 : tie.Need-returns-2
 returns-2 c =
-    let a = c .before .before .before .before .before .before .before .before .args in
-    let e = one (a .settings) (valid-settings (a .settings) (c .before .before .before .before .before .before .before .before .pre .1 .0)) (a .now) (c .before .before .before .before .before .before .before .before .pre .0) (a .scan) (valid-scan (a .scan) (c .before .before .before .before .before .before .before .before .pre .1 .1)) (c .before .before .before .before .before .before .before .piece-of .result .scan) (ap (λ (p : Piece). p .scan) (c .before .before .before .before .before .before .before .piece-of .ensures)) (passed (ap (λ (p : Piece). p .counted) (c .before .before .before .before .before .before .before .piece-of .ensures)) (c .before .before .before .before .before .if1 .left)) (c .before .before .before .piece-of2 .result .scan) (ap (λ (p : Piece). p .scan) (c .before .before .before .piece-of2 .ensures)) (failed (ap (λ (p : Piece). p .counted) (c .before .before .before .piece-of2 .ensures)) (c .before .if2 .taken)) in
-    c .done2 .ensures ∙ (λ j. record { check = Check.Passed; scan = e .0 j; pieces = e .1 j })
+    let q = c .before .before in
+    let p = q .before .before .before in
+    let g = p .before .pre in
+    let after-p = next _ _ _ g 0 (start _ _ _ g) (p .piece-of .ensures) (q .before .before .if1 .left) in
+    c .done2 .ensures ∙ last-done _ _ _ g 1 after-p (q .piece-of2 .ensures) (omega arith) (c .before .if2 .taken)
 
 piece-of-requires-3 : tie.Need-piece-of-requires-3
 piece-of-requires-3 c κs =
-    let a = c .before .before .before .before .before .before .before .before .args in
-    (c .before .before .before .before .before .before .before .before .pre .0, (c .before .before .before .before .before .before .before .before .pre .1 .0, valid-check _ (valid-b (a .settings) (valid-settings (a .settings) (c .before .before .before .before .before .before .before .before .pre .1 .0)) (a .now) (c .before .before .before .before .before .before .before .before .pre .0) (a .scan) (valid-scan (a .scan) (c .before .before .before .before .before .before .before .before .pre .1 .1)) (c .before .before .before .before .before .before .before .piece-of .result .scan) (ap (λ (p : Piece). p .scan) (c .before .before .before .before .before .before .before .piece-of .ensures)) (passed (ap (λ (p : Piece). p .counted) (c .before .before .before .before .before .before .before .piece-of .ensures)) (c .before .before .before .before .before .if1 .left)) (c .before .before .before .piece-of2 .result .scan) (ap (λ (p : Piece). p .scan) (c .before .before .before .piece-of2 .ensures)) (passed (ap (λ (p : Piece). p .counted) (c .before .before .before .piece-of2 .ensures)) (c .before .if2 .left)))))
+    let q = c .before .before in
+    let p = q .before .before .before in
+    let g = p .before .pre in
+    let after-p = next _ _ _ g 0 (start _ _ _ g) (p .piece-of .ensures) (q .before .before .if1 .left) in
+    let after-q = next _ _ _ g 1 after-p (q .piece-of2 .ensures) (c .before .if2 .left) in
+    (g .0, (g .1 .0, checked _ _ _ g 2 after-q))
 
 done-requires-3 : tie.Need-done-requires-3
 done-requires-3 c κs = search needs
 
 returns-3 : tie.Need-returns-3
 returns-3 c =
-    let a = c .before .before .before .before .before .before .before .before .before .before .before .before .args in
-    let e = two (a .settings) (valid-settings (a .settings) (c .before .before .before .before .before .before .before .before .before .before .before .before .pre .1 .0)) (a .now) (c .before .before .before .before .before .before .before .before .before .before .before .before .pre .0) (a .scan) (valid-scan (a .scan) (c .before .before .before .before .before .before .before .before .before .before .before .before .pre .1 .1)) (c .before .before .before .before .before .before .before .before .before .before .before .piece-of .result .scan) (ap (λ (p : Piece). p .scan) (c .before .before .before .before .before .before .before .before .before .before .before .piece-of .ensures)) (passed (ap (λ (p : Piece). p .counted) (c .before .before .before .before .before .before .before .before .before .before .before .piece-of .ensures)) (c .before .before .before .before .before .before .before .before .before .if1 .left)) (c .before .before .before .before .before .before .before .piece-of2 .result .scan) (ap (λ (p : Piece). p .scan) (c .before .before .before .before .before .before .before .piece-of2 .ensures)) (passed (ap (λ (p : Piece). p .counted) (c .before .before .before .before .before .before .before .piece-of2 .ensures)) (c .before .before .before .before .before .if2 .left)) (c .before .before .before .piece-of3 .result .scan) (ap (λ (p : Piece). p .scan) (c .before .before .before .piece-of3 .ensures)) (failed (ap (λ (p : Piece). p .counted) (c .before .before .before .piece-of3 .ensures)) (c .before .if3 .taken)) in
-    c .done3 .ensures ∙ (λ j. record { check = Check.Passed; scan = e .0 j; pieces = e .1 j })
+    let r = c .before .before in
+    let q = r .before .before .before in
+    let p = q .before .before .before in
+    let g = p .before .pre in
+    let after-p = next _ _ _ g 0 (start _ _ _ g) (p .piece-of .ensures) (q .before .before .if1 .left) in
+    let after-q = next _ _ _ g 1 after-p (q .piece-of2 .ensures) (r .before .before .if2 .left) in
+    c .done3 .ensures ∙ last-done _ _ _ g 2 after-q (r .piece-of3 .ensures) (omega arith) (c .before .if3 .taken)
 
 piece-of-requires-4 : tie.Need-piece-of-requires-4
 piece-of-requires-4 c κs =
-    let a = c .before .before .before .before .before .before .before .before .before .before .before .before .args in
-    (c .before .before .before .before .before .before .before .before .before .before .before .before .pre .0, (c .before .before .before .before .before .before .before .before .before .before .before .before .pre .1 .0, valid-check _ (valid-c (a .settings) (valid-settings (a .settings) (c .before .before .before .before .before .before .before .before .before .before .before .before .pre .1 .0)) (a .now) (c .before .before .before .before .before .before .before .before .before .before .before .before .pre .0) (a .scan) (valid-scan (a .scan) (c .before .before .before .before .before .before .before .before .before .before .before .before .pre .1 .1)) (c .before .before .before .before .before .before .before .before .before .before .before .piece-of .result .scan) (ap (λ (p : Piece). p .scan) (c .before .before .before .before .before .before .before .before .before .before .before .piece-of .ensures)) (passed (ap (λ (p : Piece). p .counted) (c .before .before .before .before .before .before .before .before .before .before .before .piece-of .ensures)) (c .before .before .before .before .before .before .before .before .before .if1 .left)) (c .before .before .before .before .before .before .before .piece-of2 .result .scan) (ap (λ (p : Piece). p .scan) (c .before .before .before .before .before .before .before .piece-of2 .ensures)) (passed (ap (λ (p : Piece). p .counted) (c .before .before .before .before .before .before .before .piece-of2 .ensures)) (c .before .before .before .before .before .if2 .left)) (c .before .before .before .piece-of3 .result .scan) (ap (λ (p : Piece). p .scan) (c .before .before .before .piece-of3 .ensures)) (passed (ap (λ (p : Piece). p .counted) (c .before .before .before .piece-of3 .ensures)) (c .before .if3 .left)))))
+    let r = c .before .before in
+    let q = r .before .before .before in
+    let p = q .before .before .before in
+    let g = p .before .pre in
+    let after-p = next _ _ _ g 0 (start _ _ _ g) (p .piece-of .ensures) (q .before .before .if1 .left) in
+    let after-q = next _ _ _ g 1 after-p (q .piece-of2 .ensures) (r .before .before .if2 .left) in
+    let after-r = next _ _ _ g 2 after-q (r .piece-of3 .ensures) (c .before .if3 .left) in
+    (g .0, (g .1 .0, checked _ _ _ g 3 after-r))
 
 done-requires-4 : tie.Need-done-requires-4
 done-requires-4 c κs = search needs
 
 returns-4 : tie.Need-returns-4
 returns-4 c =
-    let a = c .before .before .before .before .before .before .before .before .before .before .before .before .before .before .before .before .args in
-    let e = three (a .settings) (valid-settings (a .settings) (c .before .before .before .before .before .before .before .before .before .before .before .before .before .before .before .before .pre .1 .0)) (a .now) (c .before .before .before .before .before .before .before .before .before .before .before .before .before .before .before .before .pre .0) (a .scan) (valid-scan (a .scan) (c .before .before .before .before .before .before .before .before .before .before .before .before .before .before .before .before .pre .1 .1)) (c .before .before .before .before .before .before .before .before .before .before .before .before .before .before .before .piece-of .result .scan) (ap (λ (p : Piece). p .scan) (c .before .before .before .before .before .before .before .before .before .before .before .before .before .before .before .piece-of .ensures)) (passed (ap (λ (p : Piece). p .counted) (c .before .before .before .before .before .before .before .before .before .before .before .before .before .before .before .piece-of .ensures)) (c .before .before .before .before .before .before .before .before .before .before .before .before .before .if1 .left)) (c .before .before .before .before .before .before .before .before .before .before .before .piece-of2 .result .scan) (ap (λ (p : Piece). p .scan) (c .before .before .before .before .before .before .before .before .before .before .before .piece-of2 .ensures)) (passed (ap (λ (p : Piece). p .counted) (c .before .before .before .before .before .before .before .before .before .before .before .piece-of2 .ensures)) (c .before .before .before .before .before .before .before .before .before .if2 .left)) (c .before .before .before .before .before .before .before .piece-of3 .result .scan) (ap (λ (p : Piece). p .scan) (c .before .before .before .before .before .before .before .piece-of3 .ensures)) (passed (ap (λ (p : Piece). p .counted) (c .before .before .before .before .before .before .before .piece-of3 .ensures)) (c .before .before .before .before .before .if3 .left)) (c .before .before .before .piece-of4 .result .scan) (ap (λ (p : Piece). p .scan) (c .before .before .before .piece-of4 .ensures)) (failed (ap (λ (p : Piece). p .counted) (c .before .before .before .piece-of4 .ensures)) (c .before .if4 .taken)) in
-    c .done4 .ensures ∙ (λ j. record { check = Check.Passed; scan = e .0 j; pieces = e .1 j })
-
-done-requires-5 : tie.Need-done-requires-5
-done-requires-5 c κs = search needs
-
-returns-5 : tie.Need-returns-5
-returns-5 c =
-    let a = c .before .before .before .before .before .before .before .before .before .before .before .before .before .before .before .before .args in
-    let e = all-four (a .settings) (valid-settings (a .settings) (c .before .before .before .before .before .before .before .before .before .before .before .before .before .before .before .before .pre .1 .0)) (a .now) (c .before .before .before .before .before .before .before .before .before .before .before .before .before .before .before .before .pre .0) (a .scan) (valid-scan (a .scan) (c .before .before .before .before .before .before .before .before .before .before .before .before .before .before .before .before .pre .1 .1)) (c .before .before .before .before .before .before .before .before .before .before .before .before .before .before .before .piece-of .result .scan) (ap (λ (p : Piece). p .scan) (c .before .before .before .before .before .before .before .before .before .before .before .before .before .before .before .piece-of .ensures)) (passed (ap (λ (p : Piece). p .counted) (c .before .before .before .before .before .before .before .before .before .before .before .before .before .before .before .piece-of .ensures)) (c .before .before .before .before .before .before .before .before .before .before .before .before .before .if1 .left)) (c .before .before .before .before .before .before .before .before .before .before .before .piece-of2 .result .scan) (ap (λ (p : Piece). p .scan) (c .before .before .before .before .before .before .before .before .before .before .before .piece-of2 .ensures)) (passed (ap (λ (p : Piece). p .counted) (c .before .before .before .before .before .before .before .before .before .before .before .piece-of2 .ensures)) (c .before .before .before .before .before .before .before .before .before .if2 .left)) (c .before .before .before .before .before .before .before .piece-of3 .result .scan) (ap (λ (p : Piece). p .scan) (c .before .before .before .before .before .before .before .piece-of3 .ensures)) (passed (ap (λ (p : Piece). p .counted) (c .before .before .before .before .before .before .before .piece-of3 .ensures)) (c .before .before .before .before .before .if3 .left)) (c .before .before .before .piece-of4 .result .scan) (ap (λ (p : Piece). p .scan) (c .before .before .before .piece-of4 .ensures)) (passed (ap (λ (p : Piece). p .counted) (c .before .before .before .piece-of4 .ensures)) (c .before .if4 .left)) in
-    c .done5 .ensures ∙ (λ j. record { check = Check.Passed; scan = e .0 j; pieces = e .1 j })
+    let t = c .before in
+    let r = t .before .before .before in
+    let q = r .before .before .before in
+    let p = q .before .before .before in
+    let g = p .before .pre in
+    let after-p = next _ _ _ g 0 (start _ _ _ g) (p .piece-of .ensures) (q .before .before .if1 .left) in
+    let after-q = next _ _ _ g 1 after-p (q .piece-of2 .ensures) (r .before .before .if2 .left) in
+    let after-r = next _ _ _ g 2 after-q (r .piece-of3 .ensures) (t .before .before .if3 .left) in
+    c .done4 .ensures ∙ fourth-done _ _ _ g 3 after-r (t .piece-of4 .ensures) refl
 
 pub in-pieces-spec : {M : Type 1} → statement M
 in-pieces-spec =
@@ -87,6 +98,4 @@ in-pieces-spec =
     returns-3
     piece-of-requires-4
     done-requires-4
-    returns-4
-    done-requires-5
-    returns-5)
+    returns-4)

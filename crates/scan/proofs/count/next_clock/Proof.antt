@@ -22,10 +22,18 @@ enum-told : tie.Need-enum-told
 enum-told c = search needs
 
 returns-2 : tie.Need-returns-2
-returns-2 c = absurd (not-refused _ _ (c .before .before .before .before .before .before .pre .0) (c .before .before .before .before .before .before .pre .1) (sym (c .before .before .new .ensures) ∙ c .enum-told .given .1))
+returns-2 c =
+    let at-new = c .before .before in
+    let start = at-new .before .before .before .before in
+    absurd (not-refused _ _ (start .pre .0) (start .pre .1) (sym (at-new .new .ensures) ∙ c .enum-told .given .1))
 
 returns-3 : tie.Need-returns-3
-returns-3 c = simp (sym (c .before .before .before .before .before .before .eq .ensures) ∙ c .before .before .before .before .before .if1 .left) (ap ScanClock.Running (made-is _ _ (c .before .before .before .before .before .before .before .pre .0) (c .before .before .before .before .before .before .before .pre .1) (sym (c .before .before .before .new .ensures) ∙ c .before .made .given .1)))
+returns-3 c =
+    let at-new = c .before .before .before in
+    let at-if1 = at-new .before .before in
+    let at-eq = at-if1 .before in
+    let start = at-eq .before in
+    simp (sym (at-eq .eq .ensures) ∙ at-if1 .if1 .left) (ap ScanClock.Running (made-is _ _ (start .pre .0) (start .pre .1) (sym (at-new .new .ensures) ∙ c .before .made .given .1)))
 
 pub next-clock-spec : {M : Type 1} → statement M
 next-clock-spec =

@@ -20,11 +20,17 @@ sub-result c = search needs
 
 returns-2 : tie.Need-returns-2
 unfolding commonOf
-returns-2 c = simp (ne-eqb _ _ (c .before .before .before .if1 .left), c .if2 .taken) (ap (λ (k : ℕ). 127 - k) (row-sum (c .before .before .before .before .before .args .scan .«initial_com») (c .before .before .before .before .before .args .scan .row)))
+returns-2 c =
+    let at-if1 = c .before .before .before in
+    let start = at-if1 .before .before in
+    simp (ne-eqb _ _ (at-if1 .if1 .left), c .if2 .taken) (ap (λ (k : ℕ). 127 - k) (row-sum (start .args .scan .«initial_com») (start .args .scan .row)))
 
 returns-3 : tie.Need-returns-3
 unfolding commonOf
-returns-3 c = simp (ne-eqb _ _ (c .before .before .before .if1 .left), c .if2 .left) (row-sum (c .before .before .before .before .before .args .scan .«initial_com») (c .before .before .before .before .before .args .scan .row))
+returns-3 c =
+    let at-if1 = c .before .before .before in
+    let start = at-if1 .before .before in
+    simp (ne-eqb _ _ (at-if1 .if1 .left), c .if2 .left) (row-sum (start .args .scan .«initial_com») (start .args .scan .row))
 
 pub common-of-spec : {M : Type 1} → statement M
 common-of-spec = tie.close (tie.spec returns add-common sub-result returns-2 returns-3)

@@ -49,10 +49,13 @@ part-paint-row-end c =
 
 paint-row-requires : tie.Need-paint-row-requires Inv-loop μ-loop
 paint-row-requires c κs =
-    let a = c .before .before .before .before .before .before .args in
-    let l = c .before .before .loop in
+    let at-loop = c .before .before in
+    let at-levels-of = at-loop .before in
+    let start = at-levels-of .before .before .before in
+    let a = start .args in
+    let l = at-loop .loop in
     let same = length-rows-drop (imageRow (a .lit) (a .settings) (a .ram .now)) (length-row (a .lit) (a .settings) (a .ram .now)) (l .y) (a .image .now) (l .image) (l .inv .1) (omega arith) in
-    (c .before .before .before .before .before .before .pre .0, (c .before .before .before .levels-of .ensures, (c .before .before .before .before .before .before .pre .1 .0, (c .before .loop-test .taken, length-part (l .image) (l .y * 96) 96 (omega arith)))))
+    (start .pre .0, (at-levels-of .levels-of .ensures, (start .pre .1 .0, (c .before .loop-test .taken, length-part (l .image) (l .y * 96) 96 (omega arith)))))
 
 add-y : tie.Need-add-y Inv-loop μ-loop
 add-y c = omega arith
@@ -62,10 +65,13 @@ loop-less c = omega arith
 
 loop-again : tie.Need-loop-again Inv-loop μ-loop
 loop-again c =
-    let a = c .before .before .before .before .before .before .before .before .before .args in
-    let l = c .before .before .before .before .before .loop in
-    let part = c .before .before .paint-row .last .1 .1 .1 .1 .1 .0 in
-    (omega arith, rows-more (imageRow (a .lit) (a .settings) (a .ram .now)) (length-row (a .lit) (a .settings) (a .ram .now)) (l .y) (a .image .now) (l .image) part (l .y * 96 + 96 - l .y * 96) (l .inv .1) (c .before .before .paint-row .ensures) (omega arith))
+    let at-paint-row = c .before .before in
+    let at-loop = at-paint-row .before .before .before in
+    let start = at-loop .before .before .before .before in
+    let a = start .args in
+    let l = at-loop .loop in
+    let part = at-paint-row .paint-row .last .1 .1 .1 .1 .1 .0 in
+    (omega arith, rows-more (imageRow (a .lit) (a .settings) (a .ram .now)) (length-row (a .lit) (a .settings) (a .ram .now)) (l .y) (a .image .now) (l .image) part (l .y * 96 + 96 - l .y * 96) (l .inv .1) (at-paint-row .paint-row .ensures) (omega arith))
 
 same-length : tie.Need-same-length Inv-loop μ-loop
 same-length c =
@@ -75,8 +81,9 @@ same-length c =
 
 returns : tie.Need-returns Inv-loop μ-loop
 returns c =
-    let a = c .before .before .before .before .before .args in
-    c .before .loop .inv .1 ∙ rows-all (imageRow (a .lit) (a .settings) (a .ram .now)) (length-row (a .lit) (a .settings) (a .ram .now)) (c .before .loop .y) 64 (a .image .now) (omega arith) (c .before .before .before .before .before .pre .1 .1)
+    let start = c .before .before .before .before .before in
+    let a = start .args in
+    c .before .loop .inv .1 ∙ rows-all (imageRow (a .lit) (a .settings) (a .ram .now)) (length-row (a .lit) (a .settings) (a .ram .now)) (c .before .loop .y) 64 (a .image .now) (omega arith) (start .pre .1 .1)
 
 pub paint-spec : {M : Type 1} → statement M
 paint-spec =

@@ -39,7 +39,10 @@ returns-2 c =
     c .before .before .clear-row2 .ensures ∙ dark-beyond (a .lit) (a .settings) (a .ram .now) (a .y) (omega (arith, c .before .before .before .before .before .before .line-of .ensures .0))
 
 ram-row-of-requires : tie.Need-ram-row-of-requires
-ram-row-of-requires c κs = (c .before .before .line-of .ensures .1, valid-start (c .before .before .before .before .before .before .args .settings) (c .before .before .before .before .before .before .pre .0))
+ram-row-of-requires c κs =
+    let at-line-of = c .before .before in
+    let start = at-line-of .before .before .before .before in
+    (at-line-of .line-of .ensures .1, valid-start (start .args .settings) (start .pre .0))
 
 cast-page : tie.Need-cast-page
 cast-page c = search needs
@@ -64,9 +67,11 @@ part-paint-page-end c = search needs
 
 paint-page-requires : tie.Need-paint-page-requires
 paint-page-requires c κs =
-    let shown = c .before .before .ram-row-of in
-    let pre = c .before .before .before .before .before .before .before .before .before .pre in
-    let within = length-part (c .before .before .before .before .before .before .before .before .before .args .ram .now) (shown .result / 8 * 256) 256 (omega (arith, shown .ensures .1, pre .1 .1 .0)) in
+    let at-ram-row-of = c .before .before in
+    let start = at-ram-row-of .before .before .before .before .before .before .before in
+    let shown = at-ram-row-of .ram-row-of in
+    let pre = start .pre in
+    let within = length-part (start .args .ram .now) (shown .result / 8 * 256) 256 (omega (arith, shown .ensures .1, pre .1 .1 .0)) in
     (pre .1 .0, (within, (omega arith, pre .1 .1 .1 .1)))
 
 same-length-3 : tie.Need-same-length-3

@@ -10,7 +10,8 @@ memory-ok-requires c κs = search needs
 
 returns : tie.Need-returns
 returns c =
-    let a = c .before .before .before .before .before .args in
+    let start = c .before .before .before .before .before in
+    let a = start .args in
     turned-down (a .settings) (a .ram .now) (a .icons .now) (a .image .now) (a .driven) (refused-memory (a .settings) (a .ram .now) (a .icons .now) (a .image .now) (failed (c .before .memory-ok .ensures) (c .if1 .taken)))
 
 mul-if2 : tie.Need-mul-if2
@@ -18,39 +19,59 @@ mul-if2 c = search needs
 
 returns-2 : tie.Need-returns-2
 returns-2 c =
-    let a = c .before .before .before .before .before .before .args in
-    turned-down (a .settings) (a .ram .now) (a .icons .now) (a .image .now) (a .driven) (refused-image (a .settings) (a .ram .now) (a .icons .now) (a .image .now) (passed (c .before .before .memory-ok .ensures) (c .before .if1 .left)) (c .if2 .taken))
+    let at-memory-ok = c .before .before in
+    let start = at-memory-ok .before .before .before .before in
+    let a = start .args in
+    turned-down (a .settings) (a .ram .now) (a .icons .now) (a .image .now) (a .driven) (refused-image (a .settings) (a .ram .now) (a .icons .now) (a .image .now) (passed (at-memory-ok .memory-ok .ensures) (c .before .if1 .left)) (c .if2 .taken))
 
 valid-requires : tie.Need-valid-requires
 valid-requires c κs = search needs
 
 returns-3 : tie.Need-returns-3
 returns-3 c =
-    let a = c .before .before .before .before .before .before .before .before .args in
-    let memory = (passed (c .before .before .before .before .memory-ok .ensures) (c .before .before .before .if1 .left)) in
-    turned-down (a .settings) (a .ram .now) (a .icons .now) (a .image .now) (a .driven) (refused-settings (a .settings) (a .ram .now) (a .icons .now) (a .image .now) memory (c .before .before .if2 .left) (failed (c .before .valid .ensures) (c .if3 .taken)))
+    let at-if2 = c .before .before in
+    let at-if1 = at-if2 .before in
+    let at-memory-ok = at-if1 .before in
+    let start = at-memory-ok .before .before .before .before in
+    let a = start .args in
+    let memory = (passed (at-memory-ok .memory-ok .ensures) (at-if1 .if1 .left)) in
+    turned-down (a .settings) (a .ram .now) (a .icons .now) (a .image .now) (a .driven) (refused-settings (a .settings) (a .ram .now) (a .icons .now) (a .image .now) memory (at-if2 .if2 .left) (failed (c .before .valid .ensures) (c .if3 .taken)))
 
 lit-by-requires : tie.Need-lit-by-requires
 lit-by-requires c κs = search needs
 
 paint-requires : tie.Need-paint-requires
 paint-requires c κs =
-    let memory = c .before .before .before .before .before .before .memory-ok in
-    let kept = c .before .before .before .before .before .if1 in
-    let a = c .before .before .before .before .before .before .before .before .before .before .args in
-    (passed (c .before .before .before .valid .ensures) (c .before .before .if3 .left), (memory-ram (a .ram .now) (a .icons .now) (passed (memory .ensures) (kept .left)), c .before .before .before .before .if2 .left))
+    let at-if3 = c .before .before in
+    let at-valid = at-if3 .before in
+    let at-if2 = at-valid .before in
+    let at-if1 = at-if2 .before in
+    let at-memory-ok = at-if1 .before in
+    let start = at-memory-ok .before .before .before .before in
+    let memory = at-memory-ok .memory-ok in
+    let kept = at-if1 .if1 in
+    let a = start .args in
+    (passed (at-valid .valid .ensures) (at-if3 .if3 .left), (memory-ram (a .ram .now) (a .icons .now) (passed (memory .ensures) (kept .left)), at-if2 .if2 .left))
 
 same-length : tie.Need-same-length
 same-length c = search needs
 
 returns-4 : tie.Need-returns-4
 returns-4 c =
-    let lit = c .before .before .before .before .lit-by in
-    let sized = c .before .before .before .before .before .before .before .if2 in
-    let a = c .before .before .before .before .before .before .before .before .before .before .before .before .before .args in
-    let memory = (passed (c .before .before .before .before .before .before .before .before .before .memory-ok .ensures) (c .before .before .before .before .before .before .before .before .if1 .left)) in
-    let valid = passed (c .before .before .before .before .before .before .valid .ensures) (c .before .before .before .before .before .if3 .left) in
-    shown (a .settings) (a .ram .now) (a .icons .now) (a .image .now) (a .driven) (lit .result) _ (passes (a .settings) (a .ram .now) (a .icons .now) (a .image .now) memory (sized .left) valid) (lit .ensures) (c .before .before .paint .ensures)
+    let at-paint = c .before .before in
+    let at-lit-by = at-paint .before .before in
+    let at-if3 = at-lit-by .before in
+    let at-valid = at-if3 .before in
+    let at-if2 = at-valid .before in
+    let at-if1 = at-if2 .before in
+    let at-memory-ok = at-if1 .before in
+    let start = at-memory-ok .before .before .before .before in
+    let lit = at-lit-by .lit-by in
+    let sized = at-if2 .if2 in
+    let a = start .args in
+    let memory = (passed (at-memory-ok .memory-ok .ensures) (at-if1 .if1 .left)) in
+    let valid = passed (at-valid .valid .ensures) (at-if3 .if3 .left) in
+    shown (a .settings) (a .ram .now) (a .icons .now) (a .image .now) (a .driven) (lit .result) _ (passes (a .settings) (a .ram .now) (a .icons .now) (a .image .now) memory (sized .left) valid) (lit .ensures) (at-paint .paint .ensures)
 
 pub render-spec : {M : Type 1} → statement M
 render-spec =

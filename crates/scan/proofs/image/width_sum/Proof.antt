@@ -26,16 +26,23 @@ unfolding widths
 loop-holds c = (omega arith, refl, omega arith)
 
 pulse-width-requires : tie.Need-pulse-width-requires Inv-loop μ-loop
-pulse-width-requires c κs = (c .before .before .before .before .pre, omega (arith, c .before .before .frc-count-of .ensures, frc-bounds (c .before .before .before .before .args .settings .«gray_mode») .1))
+pulse-width-requires c κs =
+    let at-frc-count-of = c .before .before in
+    let start = at-frc-count-of .before .before in
+    (start .pre, omega (arith, at-frc-count-of .frc-count-of .ensures, frc-bounds (start .args .settings .«gray_mode») .1))
 
 cast-sum : tie.Need-cast-sum Inv-loop μ-loop
 cast-sum c = omega arith
 
 add-sum : tie.Need-add-sum Inv-loop μ-loop
 add-sum c =
-    let s = c .before .before .before .before .before .args .settings in
-    let pulse = pulse-le s (c .before .before .before .before .before .args .shade) (c .before .before .loop .phase) (c .before .before .before .before .pwm-of .result) in
-    omega (arith, pulse, c .pulse-width .ensures, c .before .before .before .before .pwm-of .ensures, pwm-bounds (s .«gray_mode») .1, c .before .before .before .frc-count-of .ensures, frc-bounds (s .«gray_mode») .1)
+    let at-loop = c .before .before in
+    let at-frc-count-of = at-loop .before in
+    let at-pwm-of = at-frc-count-of .before in
+    let start = at-pwm-of .before in
+    let s = start .args .settings in
+    let pulse = pulse-le s (start .args .shade) (at-loop .loop .phase) (at-pwm-of .pwm-of .result) in
+    omega (arith, pulse, c .pulse-width .ensures, at-pwm-of .pwm-of .ensures, pwm-bounds (s .«gray_mode») .1, at-frc-count-of .frc-count-of .ensures, frc-bounds (s .«gray_mode») .1)
 
 add-phase : tie.Need-add-phase Inv-loop μ-loop
 add-phase c = omega (arith, c .before .before .before .frc-count-of .ensures, frc-bounds (c .before .before .before .before .before .args .settings .«gray_mode») .1)

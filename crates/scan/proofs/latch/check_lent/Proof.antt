@@ -24,7 +24,11 @@ check-requires c κs = search needs
 
 returns-3 : tie.Need-returns-3
 unfolding checkLent
-returns-3 c = simp (passed (c .before .before .before .before .memory-ok .ensures) (c .before .before .before .if1 .left), passed (c .before .before .valid .ensures) (c .before .if2 .left), c .check .ensures)
+returns-3 c =
+    let at-valid = c .before .before in
+    let at-if1 = at-valid .before in
+    let at-memory-ok = at-if1 .before in
+    simp (passed (at-memory-ok .memory-ok .ensures) (at-if1 .if1 .left), passed (at-valid .valid .ensures) (c .before .if2 .left), c .check .ensures)
 
 pub check-lent-spec : {M : Type 1} → statement M
 check-lent-spec =

@@ -19,8 +19,10 @@ affected-requires c κs = search needs
 
 returns-2 : tie.Need-returns-2
 returns-2 c =
-    let a = c .before .before .before .before .before .before .args in
-    sym (unaffected (a .settings) (a .scan) (a .ram .now) (a .icons .now) (a .page) (failed (c .before .affected .ensures ∙ ap (affects (a .page)) (c .before .before .latched-row .ensures)) (c .if2 .taken)))
+    let at-latched-row = c .before .before in
+    let start = at-latched-row .before .before .before .before in
+    let a = start .args in
+    sym (unaffected (a .settings) (a .scan) (a .ram .now) (a .icons .now) (a .page) (failed (c .before .affected .ensures ∙ ap (affects (a .page)) (at-latched-row .latched-row .ensures)) (c .if2 .taken)))
 
 latch-requires : tie.Need-latch-requires
 latch-requires c κs = search needs
@@ -28,8 +30,12 @@ latch-requires c κs = search needs
 returns-3 : tie.Need-returns-3
 unfolding withLatch
 returns-3 c =
-    let a = c .before .before .before .before .before .before .before .args in
-    simp (c .latch .ensures) (sym (kept (a .settings) (a .scan) (a .ram .now) (a .icons .now) (a .page) (c .before .before .before .before .if1 .left) (passed (c .before .before .affected .ensures ∙ ap (affects (a .page)) (c .before .before .before .latched-row .ensures)) (c .before .if2 .left))))
+    let at-affected = c .before .before in
+    let at-latched-row = at-affected .before in
+    let at-if1 = at-latched-row .before in
+    let start = at-if1 .before .before .before in
+    let a = start .args in
+    simp (c .latch .ensures) (sym (kept (a .settings) (a .scan) (a .ram .now) (a .icons .now) (a .page) (at-if1 .if1 .left) (passed (at-affected .affected .ensures ∙ ap (affects (a .page)) (at-latched-row .latched-row .ensures)) (c .before .if2 .left))))
 
 pub keep-spec : {M : Type 1} → statement M
 keep-spec =

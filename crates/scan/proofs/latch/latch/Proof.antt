@@ -41,8 +41,11 @@ words-requires-2 c κs = search needs
 
 returns-2 : tie.Need-returns-2
 returns-2 c =
-    let a = c .before .before .before .before .before .before .args in
-    c .words2 .ensures ∙ latch-of-ram (a .settings) (a .scan) (a .ram .now) (a .icons .now) (c .before .before .before .latched-row .result) (c .before .before .before .latched-row .result / 8 * 256 + 256 - c .before .before .before .latched-row .result / 8 * 256) (c .before .before .before .latched-row .ensures) (c .before .before .if1 .left) (omega arith)
+    let at-if1 = c .before .before in
+    let at-latched-row = at-if1 .before in
+    let start = at-latched-row .before .before .before in
+    let a = start .args in
+    c .words2 .ensures ∙ latch-of-ram (a .settings) (a .scan) (a .ram .now) (a .icons .now) (at-latched-row .latched-row .result) (at-latched-row .latched-row .result / 8 * 256 + 256 - at-latched-row .latched-row .result / 8 * 256) (at-latched-row .latched-row .ensures) (at-if1 .if1 .left) (omega arith)
 
 pub latch-spec : {M : Type 1} → statement M
 latch-spec =

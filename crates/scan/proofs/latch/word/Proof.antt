@@ -30,7 +30,10 @@ loop-less : tie.Need-loop-less Inv-loop μ-loop
 loop-less c = omega arith
 
 loop-again : tie.Need-loop-again Inv-loop μ-loop
-loop-again c = (omega arith, rw (c .pushed .ensures, c .before .before .loop .inv .1) (word-more (rowActive (c .before .before .before .before .args .active) (c .before .before .before .before .args .settings) (c .before .before .before .before .args .part .now) (c .before .before .before .before .args .bit)) _ _ _ _ (omega arith) (omega arith)))
+loop-again c =
+    let at-loop = c .before .before in
+    let start = at-loop .before .before in
+    (omega arith, rw (c .pushed .ensures, at-loop .loop .inv .1) (word-more (rowActive (start .args .active) (start .args .settings) (start .args .part .now) (start .args .bit)) _ _ _ _ (omega arith) (omega arith)))
 
 returns : tie.Need-returns Inv-loop μ-loop
 returns c = c .before .loop .inv .1 ∙ word-at (rowActive (c .before .before .before .args .active) (c .before .before .before .args .settings) (c .before .before .before .args .part .now) (c .before .before .before .args .bit)) (omega arith) (omega arith)

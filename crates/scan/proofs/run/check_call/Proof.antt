@@ -22,14 +22,25 @@ returns-2 c = simp (passed (c .before .before .before .memory-ok .ensures) (c .b
 
 returns-3 : tie.Need-returns-3
 unfolding checkCall
-returns-3 c = simp (passed (c .before .before .before .before .memory-ok .ensures) (c .before .before .before .if1 .left), passed (c .before .before .in-range .ensures) (c .before .if2 .left), not-true (c .before .before .before .before .before .before .before .args .settings-ok) (c .if3 .taken))
+returns-3 c =
+    let at-in-range = c .before .before in
+    let at-if1 = at-in-range .before in
+    let at-memory-ok = at-if1 .before in
+    let start = at-memory-ok .before .before .before in
+    simp (passed (at-memory-ok .memory-ok .ensures) (at-if1 .if1 .left), passed (at-in-range .in-range .ensures) (c .before .if2 .left), not-true (start .args .settings-ok) (c .if3 .taken))
 
 check-requires : tie.Need-check-requires
 check-requires c κs = search needs
 
 returns-4 : tie.Need-returns-4
 unfolding checkCall
-returns-4 c = simp (passed (c .before .before .before .before .before .memory-ok .ensures) (c .before .before .before .before .if1 .left), passed (c .before .before .before .in-range .ensures) (c .before .before .if2 .left), not-false (c .before .before .before .before .before .before .before .before .args .settings-ok) (c .before .if3 .left), c .check .ensures)
+returns-4 c =
+    let at-if2 = c .before .before in
+    let at-in-range = at-if2 .before in
+    let at-if1 = at-in-range .before in
+    let at-memory-ok = at-if1 .before in
+    let start = at-memory-ok .before .before .before in
+    simp (passed (at-memory-ok .memory-ok .ensures) (at-if1 .if1 .left), passed (at-in-range .in-range .ensures) (at-if2 .if2 .left), not-false (start .args .settings-ok) (c .before .if3 .left), c .check .ensures)
 
 pub check-call-spec : {M : Type 1} → statement M
 check-call-spec =

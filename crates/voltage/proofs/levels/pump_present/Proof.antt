@@ -16,8 +16,12 @@ in-range-requires c κs = search needs
 returns : tie.Need-returns
 unfolding pumpPresent
 returns c =
-    let back = toZ-ofZ {w = w32} {z = c .before .before .before .before .before .before .before .args .supply .«temperature_millicelsius»} (record { sfits = c .before .before .before .before .before .before .struct-told .given .1 .0 .1 }) in
-    simp (c .before .before .before .before .before .has-bit .ensures, c .before .before .in-range .ensures, back)
+    let at-in-range = c .before .before in
+    let at-has-bit = at-in-range .before .before .before in
+    let at-struct-told = at-has-bit .before in
+    let start = at-struct-told .before in
+    let back = toZ-ofZ {w = w32} {z = start .args .supply .«temperature_millicelsius»} (record { sfits = at-struct-told .struct-told .given .1 .0 .1 }) in
+    simp (at-has-bit .has-bit .ensures, at-in-range .in-range .ensures, back)
 
 pub pump-present-spec : {M : Type 1} → statement M
 pump-present-spec = tie.close (tie.spec has-bit-requires in-range-requires returns)

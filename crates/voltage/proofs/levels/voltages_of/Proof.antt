@@ -48,18 +48,26 @@ share-level-requires-4 c κs = search needs
 returns : tie.Need-returns
 unfolding voltages levels
 returns c =
+    let at-share-level2 = c .before .before in
+    let at-share-level = at-share-level2 .before in
+    let at-level-at = at-share-level .before in
+    let at-has-bit = at-level-at .before .before in
+    let at-v0-present = at-has-bit .before in
+    let at-pump-of = at-v0-present .before in
+    let at-target-of = at-pump-of .before in
+    let at-struct-told = at-target-of .before in
     let start = c .before .before .before .before .before .before .before .before .before .before .before in
-    let back = toZ-ofZ {w = w32} {z = start .args .supply .«temperature_millicelsius»} (record { sfits = c .before .before .before .before .before .before .before .before .before .before .struct-told .given .1 .0 .1 }) in
+    let back = toZ-ofZ {w = w32} {z = start .args .supply .«temperature_millicelsius»} (record { sfits = at-struct-told .struct-told .given .1 .0 .1 }) in
     simp (
       c .share-level4 .ensures,
       c .before .share-level3 .ensures,
-      c .before .before .share-level2 .ensures,
-      c .before .before .before .share-level .ensures,
-      c .before .before .before .before .level-at .ensures,
-      c .before .before .before .before .before .before .has-bit .ensures,
-      c .before .before .before .before .before .before .before .v0-present .ensures,
-      c .before .before .before .before .before .before .before .before .pump-of .ensures,
-      c .before .before .before .before .before .before .before .before .before .target-of .ensures,
+      at-share-level2 .share-level2 .ensures,
+      at-share-level .share-level .ensures,
+      at-level-at .level-at .ensures,
+      at-has-bit .has-bit .ensures,
+      at-v0-present .v0-present .ensures,
+      at-pump-of .pump-of .ensures,
+      at-target-of .target-of .ensures,
       back,
     )
 

@@ -21,7 +21,9 @@ sub-position-of : tie.Need-sub-position-of
 sub-position-of c = omega (arith, lcd-bounds (c .before .before .before .before .args .rate) (c .before .before .before .before .pre .0) .low)
 
 position-of-requires : tie.Need-position-of-requires
-position-of-requires c κs = (c .before .before .before .before .pre .1 .1, (c .before .before .before .before .pre .0, omega (arith, lcd-bounds (c .before .before .before .before .args .rate) (c .before .before .before .before .pre .0) .low)))
+position-of-requires c κs =
+    let start = c .before .before .before .before in
+    (start .pre .1 .1, (start .pre .0, omega (arith, lcd-bounds (start .args .rate) (start .pre .0) .low)))
 
 position-of-requires-2 : tie.Need-position-of-requires-2
 position-of-requires-2 c κs =
@@ -42,9 +44,14 @@ div-result c = lcd-bounds (c .before .before .before .before .before .before .be
 returns-2 : tie.Need-returns-2
 unfolding edgesTo position
 returns-2 c =
-    let a = c .before .before .before .before .before .before .before .before .args in
-    let b = lcd-bounds (a .rate) (c .before .before .before .before .before .before .before .before .pre .0) in
-    simp (sym (c .before .before .before .before .before .before .lt .ensures) ∙ c .before .before .before .before .before .if1 .left, c .before .high-of-difference .ensures, c .before .before .before .position-of .ensures, c .before .before .position-of2 .ensures, value-words)
+    let at-position-of2 = c .before .before in
+    let at-position-of = at-position-of2 .before in
+    let at-if1 = at-position-of .before .before in
+    let at-lt = at-if1 .before in
+    let start = at-lt .before .before in
+    let a = start .args in
+    let b = lcd-bounds (a .rate) (start .pre .0) in
+    simp (sym (at-lt .lt .ensures) ∙ at-if1 .if1 .left, c .before .high-of-difference .ensures, at-position-of .position-of .ensures, at-position-of2 .position-of2 .ensures, value-words)
     (edge-count (raw (a .now)) (a .rate .numerator) _ (a .rate .denominator) (omega (arith, b .low)))
 
 pub count-to-spec : {M : Type 1} → statement M

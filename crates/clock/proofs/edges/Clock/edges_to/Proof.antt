@@ -1,47 +1,38 @@
 -- `clock::edges::Clock::edges_to` meets its contract.
+use mathlib.Core.Path.{sym, _∙_}
 use borrow.Author.Needs.{needs}
-use Rattle.clock.proofs.Tests.{failed, passed}
-use Rattle.clock.specs.Clock.{countEdges}
+use Rattle.clock.specs.Clock.{edgesIf, countEdges}
+use Rattle.clock.proofs.Positions.{passed-at}
 use Rattle.clock.proofs.edges.Clock.edges_to.Statement.{statement}
 use Rattle.clock.proofs.edges.Clock.edges_to.Tie as tie
 
-in-range-requires : tie.Need-in-range-requires
-in-range-requires c κs = search needs
+check-at-requires : tie.Need-check-at-requires
+check-at-requires c κs = search needs
+
+enum-known-check : tie.Need-enum-known-check
+enum-known-check c = search needs
 
 returns : tie.Need-returns
-unfolding countEdges
-returns c = simp (failed (c .before .in-range .ensures) (c .if1 .taken))
+unfolding countEdges edgesIf
+returns c = simp (sym (c .before .before .before .check-at .ensures) ∙ c .before .check .given .1)
 
-is-lcd-requires : tie.Need-is-lcd-requires
-is-lcd-requires c κs = search needs
-
-returns-2 : tie.Need-returns-2
-unfolding countEdges
-returns-2 c = simp (passed (c .before .before .before .in-range .ensures) (c .before .before .if1 .left), failed (c .before .is-lcd .ensures) (c .if2 .taken))
-
-valid-requires : tie.Need-valid-requires
-valid-requires c κs = passed (c .before .is-lcd .ensures) (c .if2 .left)
-
-returns-3 : tie.Need-returns-3
-unfolding countEdges
-returns-3 c = simp (passed (c .before .before .before .before .before .in-range .ensures) (c .before .before .before .before .if1 .left), passed (c .before .before .before .is-lcd .ensures) (c .before .before .if2 .left), failed (c .before .valid .ensures) (c .if3 .taken))
+enum-told : tie.Need-enum-told
+enum-told c = search needs
 
 count-to-requires : tie.Need-count-to-requires
-count-to-requires c κs = (passed (c .before .before .before .is-lcd .ensures) (c .before .before .if2 .left), (passed (c .before .valid .ensures) (c .if3 .left), passed (c .before .before .before .before .before .in-range .ensures) (c .before .before .before .before .if1 .left)))
+count-to-requires c κs = passed-at _ _ _ (sym (c .before .before .check-at .ensures) ∙ c .enum-told .given .1)
 
-returns-4 : tie.Need-returns-4
-unfolding countEdges
-returns-4 c = simp (passed (c .before .before .before .before .before .before .in-range .ensures) (c .before .before .before .before .before .if1 .left), passed (c .before .before .before .before .is-lcd .ensures) (c .before .before .before .if2 .left), passed (c .before .before .valid .ensures) (c .before .if3 .left), c .count-to .ensures)
+returns-2 : tie.Need-returns-2
+unfolding countEdges edgesIf
+returns-2 c = simp (sym (c .before .before .before .check-at .ensures) ∙ c .before .enum-told .given .1, c .count-to .ensures)
 
 pub edges-to-spec : {M : Type 1} → statement M
 edges-to-spec =
     tie.close
     (tie.spec
-    in-range-requires
+    check-at-requires
+    enum-known-check
     returns
-    is-lcd-requires
-    returns-2
-    valid-requires
-    returns-3
+    enum-told
     count-to-requires
-    returns-4)
+    returns-2)

@@ -15,10 +15,14 @@ unfolding isOfRate
 returns c = simp (ne-eqb _ _ (c .if1 .taken))
 
 returns-2 : tie.Need-returns-2
-returns-2 c = other-remainder (c .before .before .before .before .before .before .before .args .rate) (lcd-bounds _ (c .before .before .before .before .before .before .before .pre)) (c .before .before .before .before .before .before .before .args .self) (c .if2 .taken)
+returns-2 c =
+    let start = c .before .before .before .before .before .before .before in
+    other-remainder (start .args .rate) (lcd-bounds _ (start .pre)) (start .args .self) (c .if2 .taken)
 
 returns-3 : tie.Need-returns-3
-returns-3 c = other-whole (c .before .before .before .before .before .before .before .before .before .args .rate) (lcd-bounds _ (c .before .before .before .before .before .before .before .before .before .pre)) (c .before .before .before .before .before .before .before .before .before .args .self) (c .if3 .taken)
+returns-3 c =
+    let start = c .before .before .before .before .before .before .before .before .before in
+    other-whole (start .args .rate) (lcd-bounds _ (start .pre)) (start .args .self) (c .if3 .taken)
 
 mul-add-requires : tie.Need-mul-add-requires
 mul-add-requires c κs =
@@ -27,18 +31,26 @@ mul-add-requires c κs =
 
 returns-4 : tie.Need-returns-4
 returns-4 c =
-    let a = c .before .before .before .before .before .before .before .before .before .before .before .before .before .args in
-    let high = ap (λ (w : Wide). w .high) (c .before .before .before .mul-add .ensures) in
+    let at-mul-add = c .before .before .before in
+    let at-if2 = at-mul-add .before .before .before in
+    let at-if1 = at-if2 .before .before .before in
+    let start = at-if1 .before .before .before .before in
+    let a = start .args in
+    let high = ap (λ (w : Wide). w .high) (at-mul-add .mul-add .ensures) in
     high-differs _ (a .rate .denominator) (λ e. c .if4 .taken (high ∙ e))
-    ∙ of-rate-by-product (a .rate) (lcd-bounds _ (c .before .before .before .before .before .before .before .before .before .before .before .before .before .pre)) (a .self) (c .before .before .before .before .before .before .before .before .before .if1 .left) (c .before .before .before .before .before .before .if2 .left)
+    ∙ of-rate-by-product (a .rate) (lcd-bounds _ (start .pre)) (a .self) (at-if1 .if1 .left) (at-if2 .if2 .left)
 
 returns-5 : tie.Need-returns-5
 returns-5 c =
-    let a = c .before .before .before .before .before .before .before .before .before .before .before .before .before .before .args in
-    let high = ap (λ (w : Wide). w .high) (c .before .before .before .before .mul-add .ensures) in
-    ap (λ (w : Wide). eqb (w .low) 0) (c .before .before .before .before .mul-add .ensures)
+    let at-mul-add = c .before .before .before .before in
+    let at-if2 = at-mul-add .before .before .before in
+    let at-if1 = at-if2 .before .before .before in
+    let start = at-if1 .before .before .before .before in
+    let a = start .args in
+    let high = ap (λ (w : Wide). w .high) (at-mul-add .mul-add .ensures) in
+    ap (λ (w : Wide). eqb (w .low) 0) (at-mul-add .mul-add .ensures)
     ∙ low-decides _ (a .rate .denominator) (sym high ∙ c .before .if4 .left)
-    ∙ of-rate-by-product (a .rate) (lcd-bounds _ (c .before .before .before .before .before .before .before .before .before .before .before .before .before .before .pre)) (a .self) (c .before .before .before .before .before .before .before .before .before .before .if1 .left) (c .before .before .before .before .before .before .before .if2 .left)
+    ∙ of-rate-by-product (a .rate) (lcd-bounds _ (start .pre)) (a .self) (at-if1 .if1 .left) (at-if2 .if2 .left)
 
 pub is-of-rate-spec : {M : Type 1} → statement M
 is-of-rate-spec =

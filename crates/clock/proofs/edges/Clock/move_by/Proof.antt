@@ -1,8 +1,10 @@
 -- `clock::edges::Clock::move_by` meets its contract.
-use Prim.Native.Nat.{ℕ, _+_, _*_, _^_}
-use mathlib.Core.Path.{_∙_, ap}
+use Prim.Native.Nat.{ℕ, _+_, _*_, _^_, _<_}
+use mathlib.Core.Path.{sym, _∙_, ap}
 use native.Mathlib.Nat.{mul-le-mul}
 use native.Mathlib.Omega.{arith}
+use borrow.Author.Needs.{needs}
+use Rattle.clock.proofs.Laws.{moved-none}
 use Rattle.clock.proofs.Positions.{valid, high-lt, ordinal-lt, moved-words}
 use Rattle.clock.specs.Clock.{position, positionAfter, movedBy}
 use Rattle.clock.specs.Wide.{divided}
@@ -12,44 +14,54 @@ use Rattle.clock.proofs.Rates.{lcd-bounds}
 use Rattle.clock.proofs.edges.Clock.move_by.Statement.{statement}
 use Rattle.clock.proofs.edges.Clock.move_by.Tie as tie
 
+returns : tie.Need-returns
+returns c =
+    let a = c .before .args in
+    let v = valid (a .rate) (a .self) (c .before .pre .1 .0) in
+    let fits : a .self .at .fraction < 2 ^ 64 = search needs in
+    sym (ap (movedBy (a .rate) (a .self)) (c .if1 .taken) ∙ moved-none (a .rate) (a .self) (v .fraction-lt) fits)
+
 position-of-requires : tie.Need-position-of-requires
 position-of-requires c κs =
-    let v = valid (c .before .before .args .rate) (c .before .before .args .self) (c .before .before .pre .1 .0) in
-    (v .in-range, (c .before .before .pre .0, v .fraction-lt))
+    let v = valid (c .before .before .before .args .rate) (c .before .before .before .args .self) (c .before .before .before .pre .1 .0) in
+    (v .in-range, (c .before .before .before .pre .0, v .fraction-lt))
 
-mul-t10 : tie.Need-mul-t10
-mul-t10 c =
-    let a = c .before .before .before .before .args in
-    let b = lcd-bounds (a .rate) (c .before .before .before .before .pre .0) in
-    omega (arith, mul-le-mul {n₁ = a .edges} {m₁ = a .rate .denominator} {n₂ = 2 ^ 50} {m₂ = 8} (c .before .before .before .before .pre .1 .1) (b .denominator-high))
-
-add-t11 : tie.Need-add-t11
-unfolding position
-add-t11 c =
+mul-t11 : tie.Need-mul-t11
+mul-t11 c =
     let a = c .before .before .before .before .before .args in
     let b = lcd-bounds (a .rate) (c .before .before .before .before .before .pre .0) in
-    let v = valid (a .rate) (a .self) (c .before .before .before .before .before .pre .1 .0) in
+    omega (arith, mul-le-mul {n₁ = a .edges} {m₁ = a .rate .denominator} {n₂ = 2 ^ 50} {m₂ = 8} (c .before .before .before .before .before .pre .1 .1) (b .denominator-high))
+
+add-t12 : tie.Need-add-t12
+unfolding position
+add-t12 c =
+    let a = c .before .before .before .before .before .before .args in
+    let b = lcd-bounds (a .rate) (c .before .before .before .before .before .before .pre .0) in
+    let v = valid (a .rate) (a .self) (c .before .before .before .before .before .before .pre .1 .0) in
     let h = high-lt (a .rate) b (a .self) v in
     simp (c .before .before .position-of .ensures)
-    (omega (arith, mul-le-mul {n₁ = a .edges} {m₁ = a .rate .denominator} {n₂ = 2 ^ 50} {m₂ = 8} (c .before .before .before .before .before .pre .1 .1) (b .denominator-high), h))
+    (omega (arith, mul-le-mul {n₁ = a .edges} {m₁ = a .rate .denominator} {n₂ = 2 ^ 50} {m₂ = 8} (c .before .before .before .before .before .before .pre .1 .1) (b .denominator-high), h))
 
 div-requires : tie.Need-div-requires
 div-requires c κs =
-    let b = lcd-bounds (c .before .before .before .before .before .args .rate) (c .before .before .before .before .before .pre .0) in
+    let b = lcd-bounds (c .before .before .before .before .before .before .args .rate) (c .before .before .before .before .before .before .pre .0) in
     (omega (arith, b .low), omega (arith, b .high))
 
-add-t10 : tie.Need-add-t10
-add-t10 c =
-    let a = c .before .before .before .before .before .before .before .before .args in
-    let b = lcd-bounds (a .rate) (c .before .before .before .before .before .before .before .before .pre .0) in
-    let v = valid (a .rate) (a .self) (c .before .before .before .before .before .before .before .before .pre .1 .0) in
+add-t11 : tie.Need-add-t11
+add-t11 c =
+    let a = c .before .before .before .before .before .before .before .before .before .args in
+    let b = lcd-bounds (a .rate) (c .before .before .before .before .before .before .before .before .before .pre .0) in
+    let v = valid (a .rate) (a .self) (c .before .before .before .before .before .before .before .before .before .pre .1 .0) in
     omega (arith, ordinal-lt (a .rate) b (a .self) v)
 
-returns : tie.Need-returns
+returns-2 : tie.Need-returns-2
 unfolding movedBy positionAfter position
-returns c =
-    let a = c .before .before .before .before .before .before .before .before .args in
-    let words = c .before .before .div .ensures ∙ ap (λ (n : ℕ). divided n (a .rate .numerator)) (ap (λ (w : Wide). (w .high + a .edges * a .rate .denominator) * 2 ^ 64 + w .low) (c .before .before .before .before .before .position-of .ensures) ∙ moved-words (position (a .rate) (a .self)) (a .edges) (a .rate .denominator)) in
+returns-2 c =
+    let at-div = c .before .before in
+    let at-position-of = at-div .before .before .before in
+    let start = at-position-of .before .before .before .before in
+    let a = start .args in
+    let words = at-div .div .ensures ∙ ap (λ (n : ℕ). divided n (a .rate .numerator)) (ap (λ (w : Wide). (w .high + a .edges * a .rate .denominator) * 2 ^ 64 + w .low) (at-position-of .position-of .ensures) ∙ moved-words (position (a .rate) (a .self)) (a .edges) (a .rate .denominator)) in
     ap (λ (q : Quotient). record {
       at = record { seconds = q .quotient .high; fraction = q .quotient .low };
       whole = a .self .whole;
@@ -62,4 +74,4 @@ returns c =
 
 pub move-by-spec : {M : Type 1} → statement M
 move-by-spec =
-    tie.close (tie.spec position-of-requires mul-t10 add-t11 div-requires add-t10 returns)
+    tie.close (tie.spec returns position-of-requires mul-t11 add-t12 div-requires add-t11 returns-2)

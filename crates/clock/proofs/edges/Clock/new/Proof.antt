@@ -24,7 +24,11 @@ start-requires c κs = passed (c .before .is-lcd .ensures) (c .if2 .left)
 
 returns-3 : tie.Need-returns-3
 unfolding newClock
-returns-3 c = simp (passed (c .before .before .before .before .in-range .ensures) (c .before .before .before .if1 .left), passed (c .before .before .is-lcd .ensures) (c .before .if2 .left), c .start .ensures)
+returns-3 c =
+    let at-is-lcd = c .before .before in
+    let at-if1 = at-is-lcd .before in
+    let at-in-range = at-if1 .before in
+    simp (passed (at-in-range .in-range .ensures) (at-if1 .if1 .left), passed (at-is-lcd .is-lcd .ensures) (c .before .if2 .left), c .start .ensures)
 
 pub new-spec : {M : Type 1} → statement M
 new-spec =

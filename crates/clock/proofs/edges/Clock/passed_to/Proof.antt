@@ -1,62 +1,57 @@
 -- `clock::edges::Clock::passed_to` meets its contract.
+use mathlib.Core.Path.{sym, _∙_}
 use native.Mathlib.Nat.{le-trans, min-le-left}
 use borrow.Author.Needs.{needs}
 use Rattle.clock.proofs.Rates.{lcd-bounds}
-use Rattle.clock.proofs.Positions.{edges-le}
-use Rattle.clock.proofs.Tests.{failed, passed}
-use Rattle.clock.specs.Clock.{passEdges}
+use Rattle.clock.proofs.Positions.{passed-at, edges-le}
+use Rattle.clock.specs.Clock.{passedIf, passEdges}
 use Rattle.clock.proofs.edges.Clock.passed_to.Statement.{statement}
 use Rattle.clock.proofs.edges.Clock.passed_to.Tie as tie
 
-in-range-requires : tie.Need-in-range-requires
-in-range-requires c κs = search needs
+check-at-requires : tie.Need-check-at-requires
+check-at-requires c κs = search needs
+
+enum-known-check : tie.Need-enum-known-check
+enum-known-check c = search needs
 
 returns : tie.Need-returns
-unfolding passEdges
-returns c = simp (failed (c .before .in-range .ensures) (c .if1 .taken))
+unfolding passEdges passedIf
+returns c = simp (sym (c .before .before .before .check-at .ensures) ∙ c .before .check .given .1)
 
-is-lcd-requires : tie.Need-is-lcd-requires
-is-lcd-requires c κs = search needs
-
-returns-2 : tie.Need-returns-2
-unfolding passEdges
-returns-2 c = simp (passed (c .before .before .before .in-range .ensures) (c .before .before .if1 .left), failed (c .before .is-lcd .ensures) (c .if2 .taken))
-
-valid-requires : tie.Need-valid-requires
-valid-requires c κs = passed (c .before .is-lcd .ensures) (c .if2 .left)
-
-returns-3 : tie.Need-returns-3
-unfolding passEdges
-returns-3 c = simp (passed (c .before .before .before .before .before .in-range .ensures) (c .before .before .before .before .if1 .left), passed (c .before .before .before .is-lcd .ensures) (c .before .before .if2 .left), failed (c .before .valid .ensures) (c .if3 .taken))
+enum-told : tie.Need-enum-told
+enum-told c = search needs
 
 count-to-requires : tie.Need-count-to-requires
-count-to-requires c κs = (passed (c .before .before .before .is-lcd .ensures) (c .before .before .if2 .left), (passed (c .before .valid .ensures) (c .if3 .left), passed (c .before .before .before .before .before .in-range .ensures) (c .before .before .before .before .if1 .left)))
+count-to-requires c κs = passed-at _ _ _ (sym (c .before .before .check-at .ensures) ∙ c .enum-told .given .1)
 
 smaller-requires : tie.Need-smaller-requires
 smaller-requires c κs = search needs
 
 move-by-requires : tie.Need-move-by-requires
 move-by-requires c κs =
-    let a = c .before .before .before .before .before .before .before .before .args in
-    let lcd = passed (c .before .before .before .before .before .is-lcd .ensures) (c .before .before .before .before .if2 .left) in
-    let le = edges-le (a .rate) (lcd-bounds (a .rate) lcd) (a .self) (a .now) (passed (c .before .before .before .before .before .before .before .in-range .ensures) (c .before .before .before .before .before .before .if1 .left)) in
-    (lcd, (passed (c .before .before .before .valid .ensures) (c .before .before .if3 .left), rw (c .smaller .ensures, c .before .count-to .ensures) (le-trans (min-le-left _ _) le)))
+    let at-enum-told = c .before .before in
+    let at-check-at = at-enum-told .before .before in
+    let a = at-check-at .before .args in
+    let checks = passed-at (a .rate) (a .self) (a .now) (sym (at-check-at .check-at .ensures) ∙ at-enum-told .enum-told .given .1) in
+    let le = edges-le (a .rate) (lcd-bounds (a .rate) (checks .0)) (a .self) (a .now) (checks .1 .1) in
+    (checks .0, (checks .1 .0, rw (c .smaller .ensures, c .before .count-to .ensures) (le-trans (min-le-left _ _) le)))
 
-returns-4 : tie.Need-returns-4
-unfolding passEdges
-returns-4 c = simp (passed (c .before .before .before .before .before .before .before .before .in-range .ensures) (c .before .before .before .before .before .before .before .if1 .left), passed (c .before .before .before .before .before .before .is-lcd .ensures) (c .before .before .before .before .before .if2 .left), passed (c .before .before .before .before .valid .ensures) (c .before .before .before .if3 .left), c .move-by .ensures, c .before .smaller .ensures, c .before .before .count-to .ensures)
+returns-2 : tie.Need-returns-2
+unfolding passEdges passedIf
+returns-2 c =
+    let at-enum-told = c .before .before .before in
+    let at-check-at = at-enum-told .before .before in
+    simp (sym (at-check-at .check-at .ensures) ∙ at-enum-told .enum-told .given .1, c .move-by .ensures, c .before .smaller .ensures, c .before .before .count-to .ensures)
 
 pub passed-to-spec : {M : Type 1} → statement M
 passed-to-spec =
     tie.close
     (tie.spec
-    in-range-requires
+    check-at-requires
+    enum-known-check
     returns
-    is-lcd-requires
-    returns-2
-    valid-requires
-    returns-3
+    enum-told
     count-to-requires
     smaller-requires
     move-by-requires
-    returns-4)
+    returns-2)

@@ -24,20 +24,33 @@ in-range-requires c κs = search needs
 
 returns-3 : tie.Need-returns-3
 unfolding validClock position
-returns-3 c = simp (passed (c .before .before .before .before .before .before .is-of-rate .ensures) (c .before .before .before .before .before .if1 .left), lt-ltb _ _ (c .before .before .if2 .left), failed (c .before .in-range .ensures) (c .if3 .taken))
+returns-3 c =
+    let at-if2 = c .before .before in
+    let at-if1 = at-if2 .before .before .before in
+    let at-is-of-rate = at-if1 .before in
+    simp (passed (at-is-of-rate .is-of-rate .ensures) (at-if1 .if1 .left), lt-ltb _ _ (at-if2 .if2 .left), failed (c .before .in-range .ensures) (c .if3 .taken))
 
 position-of-requires : tie.Need-position-of-requires
 position-of-requires c κs = (passed (c .before .in-range .ensures) (c .if3 .left), (c .before .before .before .before .before .before .before .before .pre, c .before .before .if2 .left))
 
 div-result : tie.Need-div-result
-div-result c = lcd-bounds (c .before .before .before .before .before .before .before .before .before .before .before .args .rate) (c .before .before .before .before .before .before .before .before .before .before .before .pre) .denominator-low
+div-result c =
+    let start = c .before .before .before .before .before .before .before .before .before .before .before in
+    lcd-bounds (start .args .rate) (start .pre) .denominator-low
 
 returns-4 : tie.Need-returns-4
 unfolding validClock position
 returns-4 c =
-    let a = c .before .before .before .before .before .before .before .before .before .before .before .before .args in
-    let b = lcd-bounds (a .rate) (c .before .before .before .before .before .before .before .before .before .before .before .before .pre) in
-    simp (passed (c .before .before .before .before .before .before .before .before .before .before .is-of-rate .ensures) (c .before .before .before .before .before .before .before .before .before .if1 .left), lt-ltb _ _ (c .before .before .before .before .before .before .if2 .left), passed (c .before .before .before .before .before .in-range .ensures) (c .before .before .before .before .if3 .left), c .before .before .before .position-of .ensures)
+    let at-position-of = c .before .before .before in
+    let at-if3 = at-position-of .before in
+    let at-in-range = at-if3 .before in
+    let at-if2 = at-in-range .before in
+    let at-if1 = at-if2 .before .before .before in
+    let at-is-of-rate = at-if1 .before in
+    let start = at-is-of-rate .before .before in
+    let a = start .args in
+    let b = lcd-bounds (a .rate) (start .pre) in
+    simp (passed (at-is-of-rate .is-of-rate .ensures) (at-if1 .if1 .left), lt-ltb _ _ (at-if2 .if2 .left), passed (at-in-range .in-range .ensures) (at-if3 .if3 .left), at-position-of .position-of .ensures)
     (ordinal-test (a .self .ordinal) _ (a .rate .denominator) (b .denominator-low))
 
 pub valid-spec : {M : Type 1} → statement M

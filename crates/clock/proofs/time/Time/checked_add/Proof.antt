@@ -19,7 +19,9 @@ add-t8 : tie.Need-add-t8
 add-t8 c = search needs
 
 returns : tie.Need-returns
-returns c = sum-at (c .before .before .before .before .before .before .before .before .before .before .args .self) (c .before .before .before .before .before .before .before .before .before .before .args .duration) _ _ (omega arith) (search needs) (search needs)
+returns c =
+    let start = c .before .before .before .before .before .before .before .before .before .before in
+    sum-at (start .args .self) (start .args .duration) _ _ (omega arith) (search needs) (search needs)
 
 returns-2 : tie.Need-returns-2
 returns-2 c =
@@ -45,7 +47,9 @@ sub-t14 : tie.Need-sub-t14
 sub-t14 c = search needs
 
 returns-3 : tie.Need-returns-3
-returns-3 c = sum-at (c .before .before .before .before .before .before .before .before .before .before .args .self) (c .before .before .before .before .before .before .before .before .before .before .args .duration) _ _ (omega arith) (search needs) (search needs)
+returns-3 c =
+    let start = c .before .before .before .before .before .before .before .before .before .before in
+    sum-at (start .args .self) (start .args .duration) _ _ (omega arith) (search needs) (search needs)
 
 returns-4 : tie.Need-returns-4
 returns-4 c =

@@ -29,7 +29,11 @@ common-level-requires c κs = search needs
 
 returns-4 : tie.Need-returns-4
 unfolding commonMicrovolts commonWith
-returns-4 c = c .common-level .ensures ∙ simp (le-ltb _ _ (c .before .before .before .before .before .before .if1 .left), c .before .before .before .before .before .if2 .left, c .before .before .before .selected .given .1)
+returns-4 c =
+    let at-selected = c .before .before .before in
+    let at-if2 = at-selected .before .before in
+    let at-if1 = at-if2 .before in
+    c .common-level .ensures ∙ simp (le-ltb _ _ (at-if1 .if1 .left), at-if2 .if2 .left, at-selected .selected .given .1)
 
 pub common-microvolts-spec : {M : Type 1} → statement M
 common-microvolts-spec =

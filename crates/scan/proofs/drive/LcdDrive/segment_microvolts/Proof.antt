@@ -32,7 +32,11 @@ segment-level-requires c κs = search needs
 
 returns-4 : tie.Need-returns-4
 unfolding segmentMicrovolts segmentWith
-returns-4 c = c .segment-level .ensures ∙ simp (le-ltb _ _ (c .before .before .before .before .before .before .before .if1 .left), c .before .before .before .before .before .before .if2 .left, c .before .before .before .before .enum-told .given .1, c .before .active-in .ensures)
+returns-4 c =
+    let at-enum-told = c .before .before .before .before in
+    let at-if2 = at-enum-told .before .before in
+    let at-if1 = at-if2 .before in
+    c .segment-level .ensures ∙ simp (le-ltb _ _ (at-if1 .if1 .left), at-if2 .if2 .left, at-enum-told .enum-told .given .1, c .before .active-in .ensures)
 
 pub segment-microvolts-spec : {M : Type 1} → statement M
 segment-microvolts-spec =

@@ -21,22 +21,46 @@ returns-3 c = simp (lt-ltb _ _ (c .before .before .before .before .if1 .left), l
 
 returns-4 : tie.Need-returns-4
 unfolding validSettings
-returns-4 c = simp (lt-ltb _ _ (c .before .before .before .before .before .before .if1 .left), lt-ltb _ _ (c .before .before .before .before .if2 .left), le-leb _ _ (c .before .before .if3 .left), lt-leb _ _ (c .if4 .taken))
+returns-4 c =
+    let at-if3 = c .before .before in
+    let at-if2 = at-if3 .before .before in
+    let at-if1 = at-if2 .before .before in
+    simp (lt-ltb _ _ (at-if1 .if1 .left), lt-ltb _ _ (at-if2 .if2 .left), le-leb _ _ (at-if3 .if3 .left), lt-leb _ _ (c .if4 .taken))
 
 lines-ok-requires : tie.Need-lines-ok-requires
 lines-ok-requires c κs = search needs
 
 returns-5 : tie.Need-returns-5
 unfolding validSettings
-returns-5 c = simp (lt-ltb _ _ (c .before .before .before .before .before .before .before .before .if1 .left), lt-ltb _ _ (c .before .before .before .before .before .before .if2 .left), le-leb _ _ (c .before .before .before .before .if3 .left), le-leb _ _ (c .before .before .if4 .left), failed (c .before .lines-ok .ensures) (c .if5 .taken))
+returns-5 c =
+    let at-if4 = c .before .before in
+    let at-if3 = at-if4 .before .before in
+    let at-if2 = at-if3 .before .before in
+    let at-if1 = at-if2 .before .before in
+    simp (lt-ltb _ _ (at-if1 .if1 .left), lt-ltb _ _ (at-if2 .if2 .left), le-leb _ _ (at-if3 .if3 .left), le-leb _ _ (at-if4 .if4 .left), failed (c .before .lines-ok .ensures) (c .if5 .taken))
 
 returns-6 : tie.Need-returns-6
 unfolding validSettings
-returns-6 c = simp (lt-ltb _ _ (c .before .before .before .before .before .before .before .before .before .before .if1 .left), lt-ltb _ _ (c .before .before .before .before .before .before .before .before .if2 .left), le-leb _ _ (c .before .before .before .before .before .before .if3 .left), le-leb _ _ (c .before .before .before .before .if4 .left), passed (c .before .before .before .lines-ok .ensures) (c .before .before .if5 .left), lt-leb _ _ (c .if6 .taken))
+returns-6 c =
+    let at-if5 = c .before .before in
+    let at-lines-ok = at-if5 .before in
+    let at-if4 = at-lines-ok .before in
+    let at-if3 = at-if4 .before .before in
+    let at-if2 = at-if3 .before .before in
+    let at-if1 = at-if2 .before .before in
+    simp (lt-ltb _ _ (at-if1 .if1 .left), lt-ltb _ _ (at-if2 .if2 .left), le-leb _ _ (at-if3 .if3 .left), le-leb _ _ (at-if4 .if4 .left), passed (at-lines-ok .lines-ok .ensures) (at-if5 .if5 .left), lt-leb _ _ (c .if6 .taken))
 
 returns-7 : tie.Need-returns-7
 unfolding validSettings
-returns-7 c = simp (lt-ltb _ _ (c .before .before .before .before .before .before .before .before .before .before .before .before .if1 .left), lt-ltb _ _ (c .before .before .before .before .before .before .before .before .before .before .if2 .left), le-leb _ _ (c .before .before .before .before .before .before .before .before .if3 .left), le-leb _ _ (c .before .before .before .before .before .before .if4 .left), passed (c .before .before .before .before .before .lines-ok .ensures) (c .before .before .before .before .if5 .left), le-leb _ _ (c .before .before .if6 .left), lt-leb _ _ (c .if7 .taken))
+returns-7 c =
+    let at-if6 = c .before .before in
+    let at-if5 = at-if6 .before .before in
+    let at-lines-ok = at-if5 .before in
+    let at-if4 = at-lines-ok .before in
+    let at-if3 = at-if4 .before .before in
+    let at-if2 = at-if3 .before .before in
+    let at-if1 = at-if2 .before .before in
+    simp (lt-ltb _ _ (at-if1 .if1 .left), lt-ltb _ _ (at-if2 .if2 .left), le-leb _ _ (at-if3 .if3 .left), le-leb _ _ (at-if4 .if4 .left), passed (at-lines-ok .lines-ok .ensures) (at-if5 .if5 .left), le-leb _ _ (at-if6 .if6 .left), lt-leb _ _ (c .if7 .taken))
 
 returns-8 : tie.Need-returns-8
 unfolding validSettings

@@ -33,10 +33,22 @@ enum-told-3 : tie.Need-enum-told-3
 enum-told-3 c = search needs
 
 returns-3 : tie.Need-returns-3
-returns-3 c = running-refused (c .before .before .before .before .before .before .before .before .before .args .self) (passed (c .before .before .before .before .before .before .before .before .valid .ensures) (c .before .before .before .before .before .before .before .if1 .left)) _ _ (c .before .before .before .before .before .clock .given .1) (sym (c .before .before .check .ensures) ∙ c .enum-told3 .given .1)
+returns-3 c =
+    let at-check = c .before .before in
+    let at-clock = at-check .before .before .before in
+    let at-if1 = at-clock .before .before in
+    let at-valid = at-if1 .before in
+    let start = at-valid .before in
+    running-refused (start .args .self) (passed (at-valid .valid .ensures) (at-if1 .if1 .left)) _ _ (at-clock .clock .given .1) (sym (at-check .check .ensures) ∙ c .enum-told3 .given .1)
 
 returns-4 : tie.Need-returns-4
-returns-4 c = running-passes (c .before .before .before .before .before .before .before .before .before .args .self) (passed (c .before .before .before .before .before .before .before .before .valid .ensures) (c .before .before .before .before .before .before .before .if1 .left)) _ (c .before .before .before .before .before .clock .given .1) (sym (c .before .before .check .ensures) ∙ c .enum-told2 .given .1)
+returns-4 c =
+    let at-check = c .before .before in
+    let at-clock = at-check .before .before .before in
+    let at-if1 = at-clock .before .before in
+    let at-valid = at-if1 .before in
+    let start = at-valid .before in
+    running-passes (start .args .self) (passed (at-valid .valid .ensures) (at-if1 .if1 .left)) _ (at-clock .clock .given .1) (sym (at-check .check .ensures) ∙ c .enum-told2 .given .1)
 
 pub check-spec : {M : Type 1} → statement M
 check-spec =

@@ -24,7 +24,11 @@ turned-down-requires-2 c κs = search needs
 
 returns-2 : tie.Need-returns-2
 unfolding countScan countChecked
-returns-2 c = simp (passed (c .before .before .before .before .in-range .ensures) (c .before .before .before .if1 .left), failed (c .before .before .valid .ensures) (c .before .if2 .taken)) (c .turned-down2 .ensures)
+returns-2 c =
+    let at-valid = c .before .before in
+    let at-if1 = at-valid .before in
+    let at-in-range = at-if1 .before in
+    simp (passed (at-in-range .in-range .ensures) (at-if1 .if1 .left), failed (at-valid .valid .ensures) (c .before .if2 .taken)) (c .turned-down2 .ensures)
 
 check-requires : tie.Need-check-requires
 check-requires c κs = search needs
@@ -37,17 +41,36 @@ turned-down-requires-3 c κs = search needs
 
 returns-3 : tie.Need-returns-3
 unfolding countScan countChecked
-returns-3 c = simp (passed (c .before .before .before .before .before .before .before .before .in-range .ensures) (c .before .before .before .before .before .before .before .if1 .left), passed (c .before .before .before .before .before .before .valid .ensures) (c .before .before .before .before .before .if2 .left), sym (c .before .before .before .before .check .ensures) ∙ c .before .before .check2 .given .1) (c .turned-down3 .ensures)
+returns-3 c =
+    let at-check2 = c .before .before in
+    let at-check = at-check2 .before .before in
+    let at-if2 = at-check .before in
+    let at-valid = at-if2 .before in
+    let at-if1 = at-valid .before in
+    let at-in-range = at-if1 .before in
+    simp (passed (at-in-range .in-range .ensures) (at-if1 .if1 .left), passed (at-valid .valid .ensures) (at-if2 .if2 .left), sym (at-check .check .ensures) ∙ at-check2 .check2 .given .1) (c .turned-down3 .ensures)
 
 enum-told : tie.Need-enum-told
 enum-told c = search needs
 
 in-pieces-requires : tie.Need-in-pieces-requires
-in-pieces-requires c κs = (passed (c .before .before .before .before .before .before .in-range .ensures) (c .before .before .before .before .before .if1 .left), (passed (c .before .before .before .before .valid .ensures) (c .before .before .before .if2 .left), sym (c .before .before .check .ensures) ∙ c .enum-told .given .1))
+in-pieces-requires c κs =
+    let at-check = c .before .before in
+    let at-if2 = at-check .before in
+    let at-valid = at-if2 .before in
+    let at-if1 = at-valid .before in
+    let at-in-range = at-if1 .before in
+    (passed (at-in-range .in-range .ensures) (at-if1 .if1 .left), (passed (at-valid .valid .ensures) (at-if2 .if2 .left), sym (at-check .check .ensures) ∙ c .enum-told .given .1))
 
 returns-4 : tie.Need-returns-4
 unfolding countScan countChecked
-returns-4 c = simp (passed (c .before .before .before .before .before .before .before .in-range .ensures) (c .before .before .before .before .before .before .if1 .left), passed (c .before .before .before .before .before .valid .ensures) (c .before .before .before .before .if2 .left), sym (c .before .before .before .check .ensures) ∙ c .before .enum-told .given .1) (c .in-pieces .ensures)
+returns-4 c =
+    let at-check = c .before .before .before in
+    let at-if2 = at-check .before in
+    let at-valid = at-if2 .before in
+    let at-if1 = at-valid .before in
+    let at-in-range = at-if1 .before in
+    simp (passed (at-in-range .in-range .ensures) (at-if1 .if1 .left), passed (at-valid .valid .ensures) (at-if2 .if2 .left), sym (at-check .check .ensures) ∙ c .before .enum-told .given .1) (c .in-pieces .ensures)
 
 pub count-to-spec : {M : Type 1} → statement M
 count-to-spec =

@@ -21,8 +21,10 @@ returns c = simp (sym (c .before .before .check-lent .ensures)) (answer-refused 
 
 keep-requires : tie.Need-keep-requires
 keep-requires c κs =
-    let a = c .before .before .before .before .before .args in
-    let l = lent (a .settings) (a .self) (a .ram .now) (a .icons .now) (sym (c .before .before .check-lent .ensures) ∙ c .enum-told .given .1) in (phase-lt (a .self) (l .scan-passed), (l .ram-length, l .icons-length))
+    let at-check-lent = c .before .before in
+    let start = at-check-lent .before .before .before in
+    let a = start .args in
+    let l = lent (a .settings) (a .self) (a .ram .now) (a .icons .now) (sym (at-check-lent .check-lent .ensures) ∙ c .enum-told .given .1) in (phase-lt (a .self) (l .scan-passed), (l .ram-length, l .icons-length))
 
 returns-2 : tie.Need-returns-2
 unfolding retainScan

@@ -24,14 +24,25 @@ valid-pwm-requires c κs = search needs
 
 returns-3 : tie.Need-returns-3
 unfolding validScan
-returns-3 c = simp (passed (c .before .before .before .before .before .is-lcd .ensures) (c .before .before .before .before .if1 .left), passed (c .before .before .before .valid-frame .ensures) (c .before .before .if2 .left), failed (c .before .valid-pwm .ensures) (c .if3 .taken))
+returns-3 c =
+    let at-if2 = c .before .before in
+    let at-valid-frame = at-if2 .before in
+    let at-if1 = at-valid-frame .before in
+    let at-is-lcd = at-if1 .before in
+    simp (passed (at-is-lcd .is-lcd .ensures) (at-if1 .if1 .left), passed (at-valid-frame .valid-frame .ensures) (at-if2 .if2 .left), failed (c .before .valid-pwm .ensures) (c .if3 .taken))
 
 valid-counters-requires : tie.Need-valid-counters-requires
 valid-counters-requires c κs = search needs
 
 returns-4 : tie.Need-returns-4
 unfolding validScan
-returns-4 c = simp (passed (c .before .before .before .before .before .before .is-lcd .ensures) (c .before .before .before .before .before .if1 .left), passed (c .before .before .before .before .valid-frame .ensures) (c .before .before .before .if2 .left), passed (c .before .before .valid-pwm .ensures) (c .before .if3 .left)) (c .valid-counters .ensures)
+returns-4 c =
+    let at-valid-pwm = c .before .before in
+    let at-if2 = at-valid-pwm .before in
+    let at-valid-frame = at-if2 .before in
+    let at-if1 = at-valid-frame .before in
+    let at-is-lcd = at-if1 .before in
+    simp (passed (at-is-lcd .is-lcd .ensures) (at-if1 .if1 .left), passed (at-valid-frame .valid-frame .ensures) (at-if2 .if2 .left), passed (at-valid-pwm .valid-pwm .ensures) (c .before .if3 .left)) (c .valid-counters .ensures)
 
 pub valid-spec : {M : Type 1} → statement M
 valid-spec =

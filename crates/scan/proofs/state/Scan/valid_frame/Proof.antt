@@ -20,11 +20,20 @@ returns-3 c = simp (le-leb _ _ (c .before .before .before .before .if1 .left), l
 
 returns-4 : tie.Need-returns-4
 unfolding validFrame frcCountOk
-returns-4 c = simp (le-leb _ _ (c .before .before .before .before .before .before .if1 .left), le-leb _ _ (c .before .before .before .before .if2 .left), lt-ltb _ _ (c .before .before .if3 .left), le-ltb _ _ (c .if4 .taken))
+returns-4 c =
+    let at-if3 = c .before .before in
+    let at-if2 = at-if3 .before .before in
+    let at-if1 = at-if2 .before .before in
+    simp (le-leb _ _ (at-if1 .if1 .left), le-leb _ _ (at-if2 .if2 .left), lt-ltb _ _ (at-if3 .if3 .left), le-ltb _ _ (c .if4 .taken))
 
 returns-5 : tie.Need-returns-5
 unfolding validFrame frcCountOk
-returns-5 c = simp (le-leb _ _ (c .before .before .before .before .before .before .before .before .if1 .left), le-leb _ _ (c .before .before .before .before .before .before .if2 .left), lt-ltb _ _ (c .before .before .before .before .if3 .left), lt-ltb _ _ (c .before .before .if4 .left), eq-eqb _ _ (c .if5 .taken))
+returns-5 c =
+    let at-if4 = c .before .before in
+    let at-if3 = at-if4 .before .before in
+    let at-if2 = at-if3 .before .before in
+    let at-if1 = at-if2 .before .before in
+    simp (le-leb _ _ (at-if1 .if1 .left), le-leb _ _ (at-if2 .if2 .left), lt-ltb _ _ (at-if3 .if3 .left), lt-ltb _ _ (at-if4 .if4 .left), eq-eqb _ _ (c .if5 .taken))
 
 returns-6 : tie.Need-returns-6
 unfolding validFrame frcCountOk
