@@ -243,7 +243,7 @@ pub(crate) fn with_clock(scan: Scan, clock: ScanClock, rate: Rate) -> Scan
 }
 
 // A scan with no edge due.
-fn settled(scan: Scan) -> Piece
+fn none_due(scan: Scan) -> Piece
     ensures { λ r. ⌜ r ≡ record { counted = false; last = true; scan = scan } ⌝ }
 {
     Piece {
@@ -262,7 +262,7 @@ fn piece_of(scan: Scan, settings: Settings, now: Time) -> Piece
 {
     let clock = scan.clock;
     let ScanClock::Running(running) = clock else {
-        return settled(scan);
+        return none_due(scan);
     };
     let rate = scan.rate;
     let limit = limit_in(settings, scan);
@@ -272,10 +272,10 @@ fn piece_of(scan: Scan, settings: Settings, now: Time) -> Piece
         clock: moved,
     } = passed
     else {
-        return settled(scan);
+        return none_due(scan);
     };
     if count == 0 {
-        return settled(scan);
+        return none_due(scan);
     }
     let next = advanced(scan, settings, count);
     let new = rate_of(settings, next.duty, next.icon);

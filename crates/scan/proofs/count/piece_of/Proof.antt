@@ -15,13 +15,13 @@ enum-known-clock c = search needs
 enum-told : tie.Need-enum-told
 enum-told c = search needs
 
-settled-requires : tie.Need-settled-requires
-settled-requires c κs = search needs
+none-due-requires : tie.Need-none-due-requires
+none-due-requires c κs = search needs
 
 returns : tie.Need-returns
 returns c =
     let a = c .before .before .before .args in
-    c .settled .ensures ∙ sym (stopped-answer (a .settings) (a .scan) (a .now) (c .before .enum-told .given .1))
+    c .none-due .ensures ∙ sym (stopped-answer (a .settings) (a .scan) (a .now) (c .before .enum-told .given .1))
 
 limit-in-requires : tie.Need-limit-in-requires
 limit-in-requires c κs = c .before .before .before .before .pre .1 .1
@@ -35,8 +35,8 @@ enum-known-passed c = search needs
 enum-told-2 : tie.Need-enum-told-2
 enum-told-2 c = search needs
 
-settled-requires-2 : tie.Need-settled-requires-2
-settled-requires-2 c κs = search needs
+none-due-requires-2 : tie.Need-none-due-requires-2
+none-due-requires-2 c κs = search needs
 
 returns-2 : tie.Need-returns-2
 returns-2 c =
@@ -44,15 +44,15 @@ returns-2 c =
     let clock = to .before .before .before .before in
     absurd (no-refusal _ _ _ (clock .before .before .pre) (clock .clock .given .1) (to .before .limit-in .ensures) (sym (to .passed-to .ensures) ∙ c .before .enum-told2 .given .1))
 
-settled-requires-3 : tie.Need-settled-requires-3
-settled-requires-3 c κs = search needs
+none-due-requires-3 : tie.Need-none-due-requires-3
+none-due-requires-3 c κs = search needs
 
 returns-3 : tie.Need-returns-3
 returns-3 c =
     let passed = c .before .before .before in
     let to = passed .before .before in
     let clock = to .before .before .before .before in
-    c .settled3 .ensures
+    c .none-due3 .ensures
     ∙ sym (none-answer _ _ _ (clock .before .before .pre) (clock .clock .given .1) (to .before .limit-in .ensures) (sym (to .passed-to .ensures) ∙ passed .passed .given .1) (c .before .if1 .taken))
 
 advanced-requires : tie.Need-advanced-requires
@@ -97,15 +97,15 @@ piece-of-spec =
     (tie.spec
     enum-known-clock
     enum-told
-    settled-requires
+    none-due-requires
     returns
     limit-in-requires
     passed-to-requires
     enum-known-passed
     enum-told-2
-    settled-requires-2
+    none-due-requires-2
     returns-2
-    settled-requires-3
+    none-due-requires-3
     returns-3
     advanced-requires
     rate-of-requires
