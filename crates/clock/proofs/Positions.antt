@@ -1,7 +1,7 @@
 -- What the clock's code computes with words is what its definitions say: the period's check, the ordinal's check, the
 -- edge count and the move.
 use Prim.Native.Nat.{ℕ, _+_, _-_, _*_, _/_, _%_, _^_, _≤_, _<_}
-use mathlib.Core.Bool.{Bool, true, false, cond, not, _&&_, and-false}
+use mathlib.Core.Bool.{Bool, true, false, cond, _&&_, and-false}
 use mathlib.Core.Path.{_≡_, refl, sym, _∙_, ap}
 use native.Mathlib.Omega.{arith}
 use native.Mathlib.Nat.{le-trans, div-mul-le-self, div-add-mod', mod-lt, mul-le-mul, mul-le-mul-right, le-div-iff-mul-le, div-lt-iff-lt-mul, div-div-eq-div-mul, mul-comm}
@@ -11,12 +11,9 @@ use borrow.Author.Tests.{eq-eqb, ne-eqb, eqb-true, eqb-false, lt-ltb, ltb-true, 
 use Rattle.clock.specs.declared.time.Time.{Time}
 use Rattle.clock.specs.declared.rate.Rate.{Rate}
 use Rattle.clock.specs.declared.edges.Clock.{Clock}
-use Rattle.clock.specs.declared.edges.Refusal.{Refusal}
-use Rattle.clock.specs.declared.edges.Check.{Check}
 use Rattle.clock.specs.Wide.{value, wideOf}
 use Rattle.clock.specs.Time.{raw, inRange}
-use Rattle.clock.specs.Rate.{isLcd}
-use Rattle.clock.specs.Clock.{period, position, isOfRate, validClock, checkClock, checkAt, edgesTo}
+use Rattle.clock.specs.Clock.{period, position, isOfRate, validClock, edgesTo}
 use Rattle.clock.proofs.Tests.{both, eqb-same, leb-same}
 use Rattle.clock.proofs.Rates.{Bounds}
 
@@ -38,24 +35,6 @@ valid r c h =
 pub valid-test : (r : Rate) (c : Clock) → Valid r c → validClock r c ≡ true
 unfolding validClock
 valid-test r c v = simp (v .of-rate, lt-ltb _ _ (v .fraction-lt), v .in-range, le-leb _ _ (v .ordinal-le))
-
--- a clock that passes numbers 4 and 5, and number 1 of a moment
-pub clock-passed : (r : Rate) (c : Clock) → checkClock r c ≡ Check.Passed → (isLcd r ≡ true) × (validClock r c ≡ true)
-unfolding checkClock
-clock-passed r c h = go (isLcd r) refl (validClock r c) refl h
-  where
-    go : (a : Bool) → isLcd r ≡ a → (b : Bool) → validClock r c ≡ b → cond (not a) (Check.Refused Refusal.Rate) (cond (not b) (Check.Refused Refusal.Clock) Check.Passed) ≡ Check.Passed → (isLcd r ≡ true) × (validClock r c ≡ true)
-    go true a true b h = (a, b)
-    go true a false b h = let z : _≡_ {A = ℕ} 0 1 = cc in absurd (omega arith)
-    go false a b' b h = let z : _≡_ {A = ℕ} 0 1 = cc in absurd (omega arith)
-
-pub passed-at : (r : Rate) (c : Clock) (now : Time) → checkAt r c now ≡ Check.Passed → (isLcd r ≡ true) × ((validClock r c ≡ true) × (inRange now ≡ true))
-unfolding checkAt
-passed-at r c now h = go (inRange now) refl h
-  where
-    go : (a : Bool) → inRange now ≡ a → cond (not a) (Check.Refused Refusal.Time) (checkClock r c) ≡ Check.Passed → (isLcd r ≡ true) × ((validClock r c ≡ true) × (inRange now ≡ true))
-    go true a h = let k = clock-passed r c h in (k .0, (k .1, a))
-    go false a h = let z : _≡_ {A = ℕ} 0 1 = cc in absurd (omega arith)
 
 pub value-words : (n : ℕ) → value (wideOf n) ≡ n
 value-words n = div-add-mod' n (2 ^ 64)

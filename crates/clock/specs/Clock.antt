@@ -93,33 +93,25 @@ checkClock r c =
     (cond (not (validClock r c)) (Check.Refused (refusal 5))
     Check.Passed)
 
--- the checks of a call that takes a moment
-unfoldable pub checkAt : Rate → Clock → Time → Check
-checkAt r c now = cond (not (inRange now)) (Check.Refused (refusal 1)) (checkClock r c)
-
-unfoldable pub edgesIf : Check → ℕ → Edges
-edgesIf Check.Passed n = Edges.Count n
-edgesIf (Check.Refused why) n = Edges.Refused why
-
 unfoldable pub countEdges : Rate → Clock → Time → Edges
-countEdges r c now = edgesIf (checkAt r c now) (edgesTo r c now)
-
-unfoldable pub madeIf : Check → Made → Made
-madeIf Check.Passed m = m
-madeIf (Check.Refused why) m = Made.Refused why
+countEdges r c now =
+    cond (not (inRange now)) (Edges.Refused (refusal 1))
+    (cond (not (isLcd r)) (Edges.Refused (refusal 4))
+    (cond (not (validClock r c)) (Edges.Refused (refusal 5))
+    (Edges.Count (edgesTo r c now))))
 
 -- a clock whose last edge would be out of range is turned down as that time is
 unfoldable pub moveClock : Rate → Clock → ℕ → Made
 moveClock r c n =
-    madeIf (checkClock r c)
+    cond (not (isLcd r)) (Made.Refused (refusal 4))
+    (cond (not (validClock r c)) (Made.Refused (refusal 5))
     (cond (not (inRange (movedBy r c n .at))) (Made.Refused (refusal 1))
-    (Made.Clock (movedBy r c n)))
-
-unfoldable pub passedIf : Check → ℕ → Clock → Passed
-passedIf Check.Passed n c = Passed.Edges n c
-passedIf (Check.Refused why) n c = Passed.Refused why
+    (Made.Clock (movedBy r c n))))
 
 -- the edges not later than now, limit of them at the most, and the clock moved by as many
 unfoldable pub passEdges : Rate → Clock → Time → ℕ → Passed
 passEdges r c now limit =
-    passedIf (checkAt r c now) (min (edgesTo r c now) limit) (movedBy r c (min (edgesTo r c now) limit))
+    cond (not (inRange now)) (Passed.Refused (refusal 1))
+    (cond (not (isLcd r)) (Passed.Refused (refusal 4))
+    (cond (not (validClock r c)) (Passed.Refused (refusal 5))
+    (Passed.Edges (min (edgesTo r c now) limit) (movedBy r c (min (edgesTo r c now) limit)))))

@@ -11,7 +11,7 @@ use Rattle.clock.specs.declared.edges.Made.{Made}
 use Rattle.clock.specs.declared.edges.Passed.{Passed}
 use Rattle.clock.specs.Time.{inRange}
 use Rattle.clock.specs.Rate.{isLcd}
-use Rattle.clock.specs.Clock.{started, validClock, checkClock, checkAt, newClock, movedBy, edgesTo, passedIf, passEdges}
+use Rattle.clock.specs.Clock.{started, validClock, newClock, movedBy, edgesTo, passEdges}
 
 module _ (at : Time) (r : Rate) (i : inRange at ≡ true) (l : isLcd r ≡ true) where
   new-is : newClock at r ≡ Made.Clock (started at r)
@@ -26,7 +26,7 @@ module _ (at : Time) (r : Rate) (i : inRange at ≡ true) (l : isLcd r ≡ true)
 
 module _ (r : Rate) (c : Clock) (now : Time) (limit : ℕ) (i : inRange now ≡ true) (l : isLcd r ≡ true) (v : validClock r c ≡ true) where
   pub passed-is : passEdges r c now limit ≡ Passed.Edges (min (edgesTo r c now) limit) (movedBy r c (min (edgesTo r c now) limit))
-  unfolding passEdges passedIf checkAt checkClock
+  unfolding passEdges
   passed-is = simp (i, l, v)
 
   pub not-turned-down : {e : Refusal} → passEdges r c now limit ≡ Passed.Refused e → ⊥

@@ -1,38 +1,63 @@
 -- `clock::edges::Clock::edges_to` meets its contract.
-use mathlib.Core.Path.{sym, _∙_}
 use borrow.Author.Needs.{needs}
-use Rattle.clock.specs.Clock.{edgesIf, countEdges}
-use Rattle.clock.proofs.Positions.{passed-at}
+use Rattle.clock.proofs.Tests.{failed, passed}
+use Rattle.clock.specs.Clock.{countEdges}
 use Rattle.clock.proofs.edges.Clock.edges_to.Statement.{statement}
 use Rattle.clock.proofs.edges.Clock.edges_to.Tie as tie
 
-check-at-requires : tie.Need-check-at-requires
-check-at-requires c κs = search needs
-
-enum-known-check : tie.Need-enum-known-check
-enum-known-check c = search needs
+in-range-requires : tie.Need-in-range-requires
+in-range-requires c κs = search needs
 
 returns : tie.Need-returns
-unfolding countEdges edgesIf
-returns c = simp (sym (c .before .before .before .check-at .ensures) ∙ c .before .check .given .1)
+unfolding countEdges
+returns c = simp (failed (c .before .in-range .ensures) (c .if1 .taken))
 
-enum-told : tie.Need-enum-told
-enum-told c = search needs
-
-count-to-requires : tie.Need-count-to-requires
-count-to-requires c κs = passed-at _ _ _ (sym (c .before .before .check-at .ensures) ∙ c .enum-told .given .1)
+is-lcd-requires : tie.Need-is-lcd-requires
+is-lcd-requires c κs = search needs
 
 returns-2 : tie.Need-returns-2
-unfolding countEdges edgesIf
-returns-2 c = simp (sym (c .before .before .before .check-at .ensures) ∙ c .before .enum-told .given .1, c .count-to .ensures)
+unfolding countEdges
+returns-2 c = simp (passed (c .before .before .before .in-range .ensures) (c .before .before .if1 .left), failed (c .before .is-lcd .ensures) (c .if2 .taken))
+
+valid-requires : tie.Need-valid-requires
+valid-requires c κs = passed (c .before .is-lcd .ensures) (c .if2 .left)
+
+returns-3 : tie.Need-returns-3
+unfolding countEdges
+returns-3 c =
+    let at-if2 = c .before .before in
+    let at-is-lcd = at-if2 .before in
+    let at-if1 = at-is-lcd .before in
+    let at-in-range = at-if1 .before in
+    simp (passed (at-in-range .in-range .ensures) (at-if1 .if1 .left), passed (at-is-lcd .is-lcd .ensures) (at-if2 .if2 .left), failed (c .before .valid .ensures) (c .if3 .taken))
+
+count-to-requires : tie.Need-count-to-requires
+count-to-requires c κs =
+    let at-if2 = c .before .before in
+    let at-is-lcd = at-if2 .before in
+    let at-if1 = at-is-lcd .before in
+    let at-in-range = at-if1 .before in
+    (passed (at-is-lcd .is-lcd .ensures) (at-if2 .if2 .left), (passed (c .before .valid .ensures) (c .if3 .left), passed (at-in-range .in-range .ensures) (at-if1 .if1 .left)))
+
+returns-4 : tie.Need-returns-4
+unfolding countEdges
+returns-4 c =
+    let at-valid = c .before .before in
+    let at-if2 = at-valid .before in
+    let at-is-lcd = at-if2 .before in
+    let at-if1 = at-is-lcd .before in
+    let at-in-range = at-if1 .before in
+    simp (passed (at-in-range .in-range .ensures) (at-if1 .if1 .left), passed (at-is-lcd .is-lcd .ensures) (at-if2 .if2 .left), passed (at-valid .valid .ensures) (c .before .if3 .left), c .count-to .ensures)
 
 pub edges-to-spec : {M : Type 1} → statement M
 edges-to-spec =
     tie.close
     (tie.spec
-    check-at-requires
-    enum-known-check
+    in-range-requires
     returns
-    enum-told
+    is-lcd-requires
+    returns-2
+    valid-requires
+    returns-3
     count-to-requires
-    returns-2)
+    returns-4)
