@@ -1,6 +1,8 @@
-pub mod Words
-pub mod Tests
-pub mod Times
+-- What the crates above may use: the LCD rates, number 5's conditions, the clock's laws, what its calls answer.
+mod Words
+mod Times
+mod Positions
 pub mod Rates
-pub mod Positions
+pub mod Checks
 pub mod Laws
+pub mod Answers

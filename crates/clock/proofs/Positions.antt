@@ -1,83 +1,61 @@
 -- What the clock's code computes with words is what its definitions say: the period's check, the ordinal's check, the
 -- edge count and the move.
 use Prim.Native.Nat.{ℕ, _+_, _-_, _*_, _/_, _%_, _^_, _≤_, _<_}
-use mathlib.Core.Bool.{Bool, true, false, cond, _&&_, and-false}
-use mathlib.Core.Path.{_≡_, refl, sym, _∙_, ap}
+use mathlib.Core.Bool.{true, _&&_}
+use mathlib.Core.Path.{_≡_, sym, _∙_, ap}
 use native.Mathlib.Omega.{arith}
-use native.Mathlib.Nat.{le-trans, div-mul-le-self, div-add-mod', mod-lt, mul-le-mul, mul-le-mul-right, le-div-iff-mul-le, div-lt-iff-lt-mul, div-div-eq-div-mul, mul-comm}
+use native.Mathlib.Nat.{div-add-mod', mod-lt, mul-le-mul, mul-le-mul-right, le-div-iff-mul-le, div-lt-iff-lt-mul, div-div-eq-div-mul, mul-comm}
 use lib.Arith.{digits-div, digits-mod}
 use lib.Dec.{leb, ltb, eqb}
-use borrow.Author.Tests.{eq-eqb, ne-eqb, eqb-true, eqb-false, lt-ltb, ltb-true, le-leb, leb-true}
-use Rattle.clock.specs.declared.time.Time.{Time}
+use borrow.Author.Tests.{eq-eqb, eqb-true, lt-ltb, ltb-true}
+use Rattle.checks.proofs.Tests.{both, same, leb-same}
 use Rattle.clock.specs.declared.rate.Rate.{Rate}
 use Rattle.clock.specs.declared.edges.Clock.{Clock}
 use Rattle.clock.specs.Wide.{value, wideOf}
-use Rattle.clock.specs.Time.{raw, inRange}
-use Rattle.clock.specs.Clock.{period, position, isOfRate, validClock, edgesTo}
-use Rattle.clock.proofs.Tests.{both, eqb-same, leb-same}
+use Rattle.clock.specs.Time.{raw}
+use Rattle.clock.specs.Position.{period, position}
+use Rattle.clock.specs.Check.{isOfRate}
 use Rattle.clock.proofs.Rates.{Bounds}
-
--- number 5's conditions, one by one
-pub record Valid (r : Rate) (c : Clock) : Type 0 where
-  pub of-rate : isOfRate r c ≡ true
-  pub fraction-lt : c .fraction < r .numerator
-  pub in-range : inRange (c .at) ≡ true
-  pub ordinal-le : c .ordinal * period r ≤ position r c
-
-pub valid : (r : Rate) (c : Clock) → validClock r c ≡ true → Valid r c
-unfolding validClock
-valid r c h =
-    let a = both (isOfRate r c) _ h in
-    let b = both (ltb (c .fraction) (r .numerator)) _ (a .1) in
-    let d = both (inRange (c .at)) _ (b .1) in
-    record { of-rate = a .0; fraction-lt = ltb-true _ _ (b .0); in-range = d .0; ordinal-le = leb-true _ _ (d .1) }
-
-pub valid-test : (r : Rate) (c : Clock) → Valid r c → validClock r c ≡ true
-unfolding validClock
-valid-test r c v = simp (v .of-rate, lt-ltb _ _ (v .fraction-lt), v .in-range, le-leb _ _ (v .ordinal-le))
+use Rattle.clock.proofs.Checks.{Valid}
 
 pub value-words : (n : ℕ) → value (wideOf n) ≡ n
 value-words n = div-add-mod' n (2 ^ 64)
 
 -- a number by p, tested by a product
 pub by-product : (w s p k : ℕ) → s < p → eqb (w * p + s) k ≡ eqb w (k / p) && eqb s (k % p)
-by-product w s p k h = go (eqb (w * p + s) k) refl (eqb w (k / p) && eqb s (k % p)) refl
-  where
-    go : (a : Bool) → eqb (w * p + s) k ≡ a → (b : Bool) → (eqb w (k / p) && eqb s (k % p)) ≡ b → a ≡ b
-    go true e true f = refl
-    go false e false f = refl
-    go true e false f =
-        let z : w * p + s ≡ k = eqb-true _ _ e in
-        let y : (eqb w (k / p) && eqb s (k % p)) ≡ true = simp (eq-eqb w (k / p) (sym (ap (λ (n : ℕ). n / p) (sym z) ∙ digits-div w h)), eq-eqb s (k % p) (sym (ap (λ (n : ℕ). n % p) (sym z) ∙ digits-mod w h))) in
-        sym y ∙ f
-    go false e true f =
-        let z = both (eqb w (k / p)) (eqb s (k % p)) f in
-        absurd (eqb-false (w * p + s) k e (rw (eqb-true w (k / p) (z .0), eqb-true s (k % p) (z .1)) (div-add-mod' k p)))
-
--- whether a clock is of the rate
-module _ (r : Rate) (b : Bounds r) (c : Clock) where
-  pub other-remainder : r .numerator ≤ c .remainder → false ≡ isOfRate r c
-  unfolding isOfRate
-  other-remainder h =
-      let m = mod-lt (period r) {m = r .numerator} (omega (arith, b .low)) in
-      simp (ne-eqb (c .remainder) (period r % r .numerator) (λ e. omega (arith, m)), and-false)
-
-  pub other-whole : (c .whole .high ≡ 0 → ⊥) → false ≡ isOfRate r c
-  unfolding isOfRate
-  other-whole h =
-      let small = div-lt-iff-lt-mul {k = r .numerator} {x = period r} {y = 2 ^ 64} (omega (arith, b .low)) .1 (omega (arith, b .low, b .denominator-high)) in
-      simp (ne-eqb (value (c .whole)) (period r / r .numerator) (λ e. h (omega (arith, small))), and-false)
-
-  pub of-rate-by-product : c .denominator ≡ r .numerator → c .remainder < r .numerator → eqb (value (c .whole) * r .numerator + c .remainder) (period r) ≡ isOfRate r c
-  unfolding isOfRate
-  of-rate-by-product e h = rw (eq-eqb (c .denominator) (r .numerator) e) (by-product (value (c .whole)) (c .remainder) (r .numerator) (period r) h)
+by-product w s p k h =
+    same _ _
+    (λ e.
+    let z : w * p + s ≡ k = eqb-true _ _ e in
+    simp (eq-eqb w (k / p) (sym (ap (λ (n : ℕ). n / p) (sym z) ∙ digits-div w h)), eq-eqb s (k % p) (sym (ap (λ (n : ℕ). n % p) (sym z) ∙ digits-mod w h))))
+    (λ e.
+    let z = both (eqb w (k / p)) (eqb s (k % p)) e in
+    eq-eqb (w * p + s) k (rw (eqb-true w (k / p) (z .0), eqb-true s (k % p) (z .1)) (div-add-mod' k p)))
 
 -- a number against q · 2^64, by its words
-pub high-differs : (n q : ℕ) → (n / 2 ^ 64 ≡ q → ⊥) → false ≡ eqb n (q * 2 ^ 64)
-high-differs n q h = sym (ne-eqb n (q * 2 ^ 64) (λ e. h (omega arith)))
+pub by-words : (n q : ℕ) → eqb (n / 2 ^ 64) q && eqb (n % 2 ^ 64) 0 ≡ eqb n (q * 2 ^ 64)
+by-words n q =
+    same _ _
+    (λ e. let z = both (eqb (n / 2 ^ 64) q) _ e in eq-eqb n (q * 2 ^ 64) (omega (arith, eqb-true (n / 2 ^ 64) q (z .0), eqb-true (n % 2 ^ 64) 0 (z .1))))
+    (λ e. let z = eqb-true n (q * 2 ^ 64) e in simp (eq-eqb (n / 2 ^ 64) q (omega arith), eq-eqb (n % 2 ^ 64) 0 (omega arith)))
 
-pub low-decides : (n q : ℕ) → n / 2 ^ 64 ≡ q → eqb (n % 2 ^ 64) 0 ≡ eqb n (q * 2 ^ 64)
-low-decides n q h = eqb-same (n % 2 ^ 64) 0 n (q * 2 ^ 64) (λ e. omega arith) (λ e. omega arith)
+-- whether a clock is of the rate
+module _ (c : Clock) (r : Rate) (b : Bounds r) where
+  -- one of the rate has a remainder below p, and a period of less than 2^64
+  pub of-rate-small : isOfRate c r ≡ true → eqb (c .denominator) (r .numerator) && ltb (c .remainder) (r .numerator) && eqb (c .whole .high) 0 ≡ true
+  unfolding isOfRate
+  of-rate-small h =
+      let z = both (eqb (c .denominator) (r .numerator) && eqb (value (c .whole)) (period r / r .numerator)) (eqb (c .remainder) (period r % r .numerator)) h in
+      let y = both (eqb (c .denominator) (r .numerator)) (eqb (value (c .whole)) (period r / r .numerator)) (z .0) in
+      let whole = eqb-true (value (c .whole)) (period r / r .numerator) (y .1) in
+      let rest = eqb-true (c .remainder) (period r % r .numerator) (z .1) in
+      let m = mod-lt (period r) {m = r .numerator} (omega (arith, b .low)) in
+      let small = div-lt-iff-lt-mul {k = r .numerator} {x = period r} {y = 2 ^ 64} (omega (arith, b .low)) .1 (omega (arith, b .low, b .denominator-high)) in
+      simp (y .0, lt-ltb (c .remainder) (r .numerator) (omega arith), eq-eqb (c .whole .high) 0 (omega arith))
+
+  pub of-rate-by-product : eqb (c .denominator) (r .numerator) ≡ true → c .remainder < r .numerator → eqb (value (c .whole) * r .numerator + c .remainder) (period r) ≡ isOfRate c r
+  unfolding isOfRate
+  of-rate-by-product e h = rw e (by-product (value (c .whole)) (c .remainder) (r .numerator) (period r) h)
 
 -- the ordinal's test
 pub ordinal-test : (o n q : ℕ) → 0 < q → leb o (n / 2 ^ 64 / q) ≡ leb (o * (q * 2 ^ 64)) n
@@ -122,36 +100,13 @@ out-of-range x n q p hn hq pos hp = le-div-iff-mul-le {k = p} {x = 2 ^ 32 * 2 ^ 
     far = omega (arith, edges)
 
 -- a valid clock's high word and ordinal
-pub high-lt : (r : Rate) → Bounds r → (c : Clock) → Valid r c → position r c / 2 ^ 64 < 2 ^ 50
-unfolding position
-high-lt r b c v = position-high-lt (raw (c .at)) (r .numerator) (c .fraction) (ltb-true _ _ (v .in-range)) (v .fraction-lt) (b .high)
+module _ (c : Clock) (r : Rate) (b : Bounds r) (v : Valid c r) where
+  pub high-lt : position c r / 2 ^ 64 < 2 ^ 50
+  unfolding position
+  high-lt = position-high-lt (raw (c .at)) (r .numerator) (c .fraction) (ltb-true _ _ (v .in-range)) (v .fraction-lt) (b .high)
 
-pub ordinal-lt : (r : Rate) → Bounds r → (c : Clock) → Valid r c → c .ordinal < 2 ^ 50
-ordinal-lt r b c v =
-    let h = high-lt r b c v in
-    let q = mul-le-mul {n₁ = c .ordinal} {m₁ = 1} {n₂ = c .ordinal} {m₂ = r .denominator} (omega arith) (b .denominator-low) in
-    omega (arith, v .ordinal-le)
-
--- no more edges stand in range than 2^50
-pub edges-le : (r : Rate) → Bounds r → (c : Clock) (now : Time) → inRange now ≡ true → edgesTo r c now ≤ 2 ^ 50
-unfolding edgesTo
-edges-le r b c now i = go (ltb (raw now) (raw (c .at)))
-  where
-    k : ℕ
-    k = ((raw now + 1) * r .numerator - 1 - position r c) / period r
-
-    within : k * period r ≤ (raw now + 1) * r .numerator
-    within = le-trans (div-mul-le-self ((raw now + 1) * r .numerator - 1 - position r c) (period r)) (omega arith)
-
-    periods : k ≤ k * r .denominator
-    periods = omega (arith, mul-le-mul {n₁ = k} {m₁ = 1} {n₂ = k} {m₂ = r .denominator} (omega arith) (b .denominator-low))
-
-    moment : raw now + 1 ≤ 2 ^ 96
-    moment = let s = ltb-true (raw now) (2 ^ 32 * 2 ^ 64) i in omega arith
-
-    bound : (raw now + 1) * r .numerator ≤ 2 ^ 96 * 184000
-    bound = mul-le-mul moment (b .high)
-
-    go : (t : Bool) → cond t 0 k ≤ 2 ^ 50
-    go true = omega arith
-    go false = omega (arith, within, periods, bound)
+  pub ordinal-lt : c .ordinal < 2 ^ 50
+  ordinal-lt =
+      let h = high-lt in
+      let q = mul-le-mul {n₁ = c .ordinal} {m₁ = 1} {n₂ = c .ordinal} {m₂ = r .denominator} (omega arith) (b .denominator-low) in
+      omega (arith, v .ordinal-le)

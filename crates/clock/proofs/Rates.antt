@@ -5,11 +5,11 @@ use mathlib.Core.Logic.{_⊎_, inl, inr, ⊎-elim}
 use mathlib.Core.Path.{_≡_, refl, sym, _∙_, ap}
 use native.Mathlib.Omega.{arith}
 use native.Mathlib.Nat.{mul-div-cancel-left}
-use lib.Dec.{leb, eqb}
+use lib.Dec.{eqb}
 use borrow.Author.Tests.{leb-true, eqb-true, le-leb, eq-eqb}
 use Rattle.clock.specs.declared.rate.Rate.{Rate}
 use Rattle.clock.specs.Rate.{oscillatorRate, lcdRate, sameRate, byRows, isOscillatorRate, byOscillator, isLcd}
-use Rattle.clock.proofs.Tests.{both, either}
+use Rattle.checks.proofs.Tests.{both, either}
 
 -- what two-word arithmetic asks of a rate
 pub record Bounds (r : Rate) : Type 0 where
@@ -19,11 +19,11 @@ pub record Bounds (r : Rate) : Type 0 where
   pub denominator-high : r .denominator ≤ 8
 
 rows-rate : (rows : ℕ) → 16 ≤ rows → rows ≤ 129 → isLcd (record { numerator = 1008 * rows; denominator = 1 }) ≡ true
-unfolding isLcd byRows
+unfolding isLcd
 rows-rate rows lo hi = simp (mul-div-cancel-left rows {n = 1008} (omega arith), eq-eqb (1008 * rows) (1008 * rows) refl, le-leb 16 rows lo, le-leb rows 129 hi)
 
 oscillator-rate : (p q : ℕ) → isOscillatorRate p ≡ true → 1 ≤ q → q ≤ 8 → isLcd (record { numerator = p; denominator = q }) ≡ true
-unfolding isLcd byOscillator
+unfolding isLcd
 oscillator-rate p q h lo hi = simp (h, le-leb 1 q lo, le-leb q 8 hi, or-true)
 
 -- an oscillator's rate is one of four
@@ -37,47 +37,62 @@ one-of-range p (inr (inr (inl e))) = omega arith
 one-of-range p (inr (inr (inr e))) = omega arith
 
 pub one-of : (p : ℕ) → isOscillatorRate p ≡ true → OneOf p
-unfolding isOscillatorRate
-one-of p h = first (either (eqb p 92000) _ h)
+one-of p h = last (either (eqb p 92000 || eqb p 122000 || eqb p 147000) (eqb p 184000) h)
   where
-    third : (eqb p 147000 ≡ true) ⊎ (eqb p 184000 ≡ true) → (p ≡ 147000) ⊎ (p ≡ 184000)
-    third (inl e) = inl (eqb-true p 147000 e)
-    third (inr e) = inr (eqb-true p 184000 e)
-
-    second : (eqb p 122000 ≡ true) ⊎ (eqb p 147000 || eqb p 184000 ≡ true) → (p ≡ 122000) ⊎ ((p ≡ 147000) ⊎ (p ≡ 184000))
-    second (inl e) = inl (eqb-true p 122000 e)
-    second (inr h) = inr (third (either (eqb p 147000) _ h))
-
-    first : (eqb p 92000 ≡ true) ⊎ (eqb p 122000 || (eqb p 147000 || eqb p 184000) ≡ true) → OneOf p
+    first : (eqb p 92000 ≡ true) ⊎ (eqb p 122000 ≡ true) → OneOf p
     first (inl e) = inl (eqb-true p 92000 e)
-    first (inr h) = inr (second (either (eqb p 122000) _ h))
+    first (inr e) = inr (inl (eqb-true p 122000 e))
+
+    middle : (eqb p 92000 || eqb p 122000 ≡ true) ⊎ (eqb p 147000 ≡ true) → OneOf p
+    middle (inl h) = first (either (eqb p 92000) (eqb p 122000) h)
+    middle (inr e) = inr (inr (inl (eqb-true p 147000 e)))
+
+    last : (eqb p 92000 || eqb p 122000 || eqb p 147000 ≡ true) ⊎ (eqb p 184000 ≡ true) → OneOf p
+    last (inl h) = middle (either (eqb p 92000 || eqb p 122000) (eqb p 147000) h)
+    last (inr e) = inr (inr (inr (eqb-true p 184000 e)))
+
+-- what the two kinds of LCD rates are
+record ByRows (r : Rate) : Type 0 where
+  over-one : r .denominator ≡ 1
+  whole : r .numerator ≡ 1008 * (r .numerator / 1008)
+  rows-low : 16 ≤ r .numerator / 1008
+  rows-high : r .numerator / 1008 ≤ 129
+
+record ByOscillator (r : Rate) : Type 0 where
+  rate : OneOf (r .numerator)
+  over-low : 1 ≤ r .denominator
+  over-high : r .denominator ≤ 8
 
 module _ (r : Rate) where
+  by-rows : byRows r ≡ true → ByRows r
+  by-rows h =
+      let a = both _ _ h in
+      let b = both _ _ (a .0) in
+      let d = both _ _ (b .0) in
+      record { over-one = eqb-true _ _ (d .0); whole = eqb-true _ _ (d .1); rows-low = leb-true _ _ (b .1); rows-high = leb-true _ _ (a .1) }
+
+  by-oscillator : byOscillator r ≡ true → ByOscillator r
+  by-oscillator h =
+      let a = both _ _ h in
+      let b = both _ _ (a .0) in
+      record { rate = one-of (r .numerator) (b .0); over-low = leb-true _ _ (b .1); over-high = leb-true _ _ (a .1) }
+
   rows-bounds : byRows r ≡ true → Bounds r
-  unfolding byRows
   rows-bounds h =
-      let a = both (eqb (r .denominator) 1) _ h in
-      let b = both (eqb (r .numerator) (1008 * (r .numerator / 1008))) _ (a .1) in
-      let d = both (leb 16 (r .numerator / 1008)) _ (b .1) in
-      let q : r .denominator ≡ 1 = eqb-true _ _ (a .0) in
-      let low : 16 ≤ r .numerator / 1008 = leb-true _ _ (d .0) in
-      let high : r .numerator / 1008 ≤ 129 = leb-true _ _ (d .1) in
+      let f = by-rows h in
       record { low = omega arith; high = omega arith; denominator-low = omega arith; denominator-high = omega arith }
 
   oscillator-bounds : byOscillator r ≡ true → Bounds r
-  unfolding byOscillator
   oscillator-bounds h =
-      let a = both (isOscillatorRate (r .numerator)) _ h in
-      let b = both (leb 1 (r .denominator)) _ (a .1) in
-      let range = one-of-range (r .numerator) (one-of (r .numerator) (a .0)) in
-      record { low = range .0; high = range .1; denominator-low = leb-true _ _ (b .0); denominator-high = leb-true _ _ (b .1) }
+      let f = by-oscillator h in
+      let range = one-of-range (r .numerator) (f .rate) in
+      record { low = range .0; high = range .1; denominator-low = f .over-low; denominator-high = f .over-high }
 
   pub lcd-bounds : isLcd r ≡ true → Bounds r
   unfolding isLcd
   lcd-bounds h = ⊎-elim rows-bounds oscillator-bounds (either (byRows r) (byOscillator r) h)
 
 oscillates : (k : ℕ) → k < 4 → isOscillatorRate (oscillatorRate k) ≡ true
-unfolding isOscillatorRate
 oscillates zero h = refl
 oscillates (suc zero) h = refl
 oscillates (suc (suc zero)) h = refl
@@ -111,19 +126,16 @@ pub record FromSetting (r : Rate) : Type 0 where
 -- no LCD rate but those of the settings
 module _ (r : Rate) where
   from-rows : byRows r ≡ true → FromSetting r
-  unfolding byRows
   from-rows h =
-      let a = both (eqb (r .denominator) 1) _ h in
-      let b = both (eqb (r .numerator) (1008 * (r .numerator / 1008))) _ (a .1) in
-      let d = both (leb 16 (r .numerator / 1008)) _ (b .1) in
+      let f = by-rows r h in
       record {
         control = 0;
         frequency = 0;
         rows = r .numerator / 1008;
         frequency-lt = omega arith;
-        rows-low = leb-true _ _ (d .0);
-        rows-high = leb-true _ _ (d .1);
-        gives = λ i. record { numerator = sym (eqb-true (r .numerator) _ (b .0)) i; denominator = sym (eqb-true (r .denominator) 1 (a .0)) i };
+        rows-low = f .rows-low;
+        rows-high = f .rows-high;
+        gives = λ i. record { numerator = sym (f .whole) i; denominator = sym (f .over-one) i };
       }
 
   from-setting : (k : ℕ) → k < 4 → r .numerator ≡ oscillatorRate k → 1 ≤ r .denominator → r .denominator ≤ 8 → FromSetting r
@@ -144,17 +156,13 @@ module _ (r : Rate) where
       remainder = omega arith
 
   from-oscillator : byOscillator r ≡ true → FromSetting r
-  unfolding byOscillator
-  from-oscillator h =
-      let a = both (isOscillatorRate (r .numerator)) _ h in
-      let b = both (leb 1 (r .denominator)) _ (a .1) in
-      go (leb-true _ _ (b .0)) (leb-true _ _ (b .1)) (one-of (r .numerator) (a .0))
+  from-oscillator h = let f = by-oscillator r h in go (f .rate) (f .over-low) (f .over-high)
     where
-      go : 1 ≤ r .denominator → r .denominator ≤ 8 → OneOf (r .numerator) → FromSetting r
-      go lo hi (inl e) = from-setting 0 (omega arith) e lo hi
-      go lo hi (inr (inl e)) = from-setting 1 (omega arith) e lo hi
-      go lo hi (inr (inr (inl e))) = from-setting 2 (omega arith) e lo hi
-      go lo hi (inr (inr (inr e))) = from-setting 3 (omega arith) e lo hi
+      go : OneOf (r .numerator) → 1 ≤ r .denominator → r .denominator ≤ 8 → FromSetting r
+      go (inl e) = from-setting 0 (omega arith) e
+      go (inr (inl e)) = from-setting 1 (omega arith) e
+      go (inr (inr (inl e))) = from-setting 2 (omega arith) e
+      go (inr (inr (inr e))) = from-setting 3 (omega arith) e
 
   pub lcd-only : isLcd r ≡ true → FromSetting r
   unfolding isLcd

@@ -4,7 +4,7 @@ use mathlib.Core.Path.{_≡_, sym, _∙_, ap}
 use native.Mathlib.Omega.{arith}
 use native.Mathlib.Nat.{div-add-mod', mod-lt, mul-le-mul, mul-add-div-right, mul-add-mod-self-right, div-lt-iff-lt-mul}
 use lib.Arith.{digits-div, digits-mod}
-use Rattle.clock.specs.Wide.{wideOf, divided}
+use Rattle.clock.specs.Wide.{wideOf, quotientOf}
 
 -- a number's words, from its words
 pub words : (h : ℕ) {l n : ℕ} → l < 2 ^ 64 → n ≡ h * 2 ^ 64 + l → record { high = h; low = l } ≡ wideOf n
@@ -56,7 +56,7 @@ module _ (x y d b : ℕ) (pos : 0 < d) where
 pub long-division : (h l d : ℕ) → 0 < d → l < 2 ^ 64 → record {
   quotient = record { high = h / d; low = (h % d * 2 ^ 32 + l / 2 ^ 32) / d * 2 ^ 32 + ((h % d * 2 ^ 32 + l / 2 ^ 32) % d * 2 ^ 32 + l % 2 ^ 32) / d };
   remainder = ((h % d * 2 ^ 32 + l / 2 ^ 32) % d * 2 ^ 32 + l % 2 ^ 32) % d;
-} ≡ divided (h * 2 ^ 64 + l) d
+} ≡ quotientOf (h * 2 ^ 64 + l) d
 long-division h l d pos b = λ i. record { quotient = (words (h / d) low-lt quotients) i; remainder = (sym remainders) i }
   where
     t : ℕ

@@ -24,19 +24,20 @@ unfoldable pub sameRate : Rate → Rate → Bool
 sameRate r t = eqb (r .numerator) (t .numerator) && eqb (r .denominator) (t .denominator)
 
 -- 1008 × n over 1, n from 16 to 129
-unfoldable pub byRows : Rate → Bool
+abbrev pub byRows : Rate → Bool
 byRows r =
     eqb (r .denominator) 1
-    && (eqb (r .numerator) (1008 * (r .numerator / 1008))
-    && (leb 16 (r .numerator / 1008) && leb (r .numerator / 1008) 129))
+    && eqb (r .numerator) (1008 * (r .numerator / 1008))
+    && leb 16 (r .numerator / 1008)
+    && leb (r .numerator / 1008) 129
 
-unfoldable pub isOscillatorRate : ℕ → Bool
+abbrev pub isOscillatorRate : ℕ → Bool
 isOscillatorRate p =
-    eqb p (oscillatorRate 0) || (eqb p (oscillatorRate 1) || (eqb p (oscillatorRate 2) || eqb p (oscillatorRate 3)))
+    eqb p (oscillatorRate 0) || eqb p (oscillatorRate 1) || eqb p (oscillatorRate 2) || eqb p (oscillatorRate 3)
 
 -- an oscillator's rate over 1 to 8
-unfoldable pub byOscillator : Rate → Bool
-byOscillator r = isOscillatorRate (r .numerator) && (leb 1 (r .denominator) && leb (r .denominator) 8)
+abbrev pub byOscillator : Rate → Bool
+byOscillator r = isOscillatorRate (r .numerator) && leb 1 (r .denominator) && leb (r .denominator) 8
 
 unfoldable pub isLcd : Rate → Bool
 isLcd r = byRows r || byOscillator r

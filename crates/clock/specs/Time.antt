@@ -15,6 +15,10 @@ raw t = t .seconds * 2 ^ 64 + t .fraction
 abbrev pub timeOf : ℕ → Time
 timeOf n = record { seconds = n / 2 ^ 64; fraction = n % 2 ^ 64 }
 
+-- `Time::ZERO`
+abbrev pub zero : Time
+zero = record { seconds = 0; fraction = 0 }
+
 abbrev pub rawDuration : Duration → ℕ
 rawDuration d = d .seconds * 2 ^ 64 + d .fraction
 

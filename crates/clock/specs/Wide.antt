@@ -10,5 +10,6 @@ value w = w .high * 2 ^ 64 + w .low
 abbrev pub wideOf : ℕ → Wide
 wideOf n = record { high = n / 2 ^ 64; low = n % 2 ^ 64 }
 
-abbrev pub divided : ℕ → ℕ → Quotient
-divided n d = record { quotient = wideOf (n / d); remainder = n % d }
+-- quotient and remainder
+abbrev pub quotientOf : ℕ → ℕ → Quotient
+quotientOf n d = record { quotient = wideOf (n / d); remainder = n % d }

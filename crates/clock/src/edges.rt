@@ -1,18 +1,20 @@
-// A running rational clock: its check, how many of its edges stand up to a moment, and the clock
-// moved forward by a number of edges. Document 01, 'Clock' and number 5 of its table.
+// A running rational clock: how many of its edges stand up to a moment, and the clock moved forward
+// by a number of edges. Document 01, 'Clock'.
 ghost use mathlib.Core.Path.{_≡_};
 ghost use mathlib.Core.Bool.{true};
-ghost use Prim.Native.Nat.{_+_, _*_, _^_, _<_, _≤_, min};
+ghost use Prim.Native.Nat.{_^_, _≤_, min};
 ghost use Rattle.clock.specs.Rate.{isLcd};
-ghost use Rattle.clock.specs.Time.{raw, inRange};
-ghost use Rattle.clock.specs.Wide.{wideOf};
-ghost use Rattle.clock.specs.Clock.{position, started, isOfRate, validClock, checkClock, newClock, edgesTo, countEdges, movedBy, moveClock, passEdges};
+ghost use Rattle.clock.specs.Time.{inRange};
+ghost use Rattle.clock.specs.Check.{validClock};
+ghost use Rattle.clock.specs.Edges.{started, edgesTo, movedBy, answeredClock, answeredCount, answeredPass, newClock, countEdges, moveClock, passEdges};
+use crate::check::Check;
+use crate::check::Refusal;
+use crate::position::position_of;
 use crate::rate::Rate;
 use crate::time::Time;
 use crate::wide::Wide;
 use crate::wide::div;
 use crate::wide::high_of_difference;
-use crate::wide::mul_add;
 
 // `at` is the time of the last edge passed and `fraction` what it is later than that, in
 // 1 / denominator fraction units; `whole` and `remainder` are the period in the same units.
@@ -23,18 +25,6 @@ pub struct Clock {
     pub denominator: u64,
     pub fraction: u64,
     pub ordinal: u64,
-}
-
-// Why a call is turned down: `number` of specs/Clock.antt gives each its number.
-pub enum Refusal {
-    Time,
-    Rate,
-    Clock,
-}
-
-pub enum Check {
-    Passed,
-    Refused(Refusal),
 }
 
 pub enum Made {
@@ -51,20 +41,6 @@ pub enum Edges {
 pub enum Passed {
     Edges { count: u64, clock: Clock },
     Refused(Refusal),
-}
-
-// The time and the part of a fraction unit above it as one number, in 1 / numerator fraction units.
-fn position_of(at: Time, fraction: u64, rate: Rate) -> Wide
-    requires { ⌜ inRange at ≡ true ⌝ }
-    requires { ⌜ isLcd rate ≡ true ⌝ }
-    requires { ⌜ fraction < rate .numerator ⌝ }
-    ensures { λ r. ⌜ r ≡ wideOf (raw at * rate .numerator + fraction) ⌝ }
-{
-    let words = Wide {
-        high: at.seconds,
-        low: at.fraction,
-    };
-    mul_add(words, rate.numerator, fraction)
 }
 
 fn smaller(a: u64, b: u64) -> u64
@@ -96,7 +72,7 @@ fn start(at: Time, rate: Rate) -> Clock
 impl Clock {
     // A clock that starts at a moment.
     pub fn new(at: Time, rate: Rate) -> Made
-        ensures { λ r. ⌜ r ≡ newClock at rate ⌝ }
+        ensures { λ r. ⌜ answeredClock r ≡ newClock at rate ⌝ }
     {
         if !at.in_range() {
             return Made::Refused(Refusal::Time);
@@ -107,66 +83,12 @@ impl Clock {
         Made::Clock(start(at, rate))
     }
 
-    // Whether period and denominator are the rate's: a product tells it without a division.
-    fn is_of_rate(self, rate: Rate) -> bool
-        requires { ⌜ isLcd rate ≡ true ⌝ }
-        ensures { λ r. ⌜ r ≡ isOfRate rate self ⌝ }
-    {
-        let whole = self.whole;
-        if self.denominator != rate.numerator {
-            return false;
-        }
-        if self.remainder >= rate.numerator {
-            return false;
-        }
-        if whole.high != 0 {
-            return false;
-        }
-        let period = mul_add(whole, rate.numerator, self.remainder);
-        if period.high != rate.denominator {
-            return false;
-        }
-        period.low == 0
-    }
-
-    // Number 5 of document 01's table.
-    fn valid(self, rate: Rate) -> bool
-        requires { ⌜ isLcd rate ≡ true ⌝ }
-        ensures { λ r. ⌜ r ≡ validClock rate self ⌝ }
-    {
-        let at = self.at;
-        if !self.is_of_rate(rate) {
-            return false;
-        }
-        if self.fraction >= rate.numerator {
-            return false;
-        }
-        if !at.in_range() {
-            return false;
-        }
-        let position = position_of(at, self.fraction, rate);
-        self.ordinal <= position.high / rate.denominator
-    }
-
-    // Numbers 4 and 5.
-    pub fn check(self, rate: Rate) -> Check
-        ensures { λ r. ⌜ r ≡ checkClock rate self ⌝ }
-    {
-        if !rate.is_lcd() {
-            return Check::Refused(Refusal::Rate);
-        }
-        if !self.valid(rate) {
-            return Check::Refused(Refusal::Clock);
-        }
-        Check::Passed
-    }
-
     // How many edges stand after the last one and not later than now.
     fn count_to(self, rate: Rate, now: Time) -> u64
         requires { ⌜ isLcd rate ≡ true ⌝ }
-        requires { ⌜ validClock rate self ≡ true ⌝ }
+        requires { ⌜ validClock self rate ≡ true ⌝ }
         requires { ⌜ inRange now ≡ true ⌝ }
-        ensures { λ r. ⌜ r ≡ edgesTo rate self now ⌝ }
+        ensures { λ r. ⌜ r ≡ edgesTo self rate now ⌝ }
     {
         let at = self.at;
         if now.lt(at) {
@@ -179,16 +101,14 @@ impl Clock {
     }
 
     pub fn edges_to(self, rate: Rate, now: Time) -> Edges
-        ensures { λ r. ⌜ r ≡ countEdges rate self now ⌝ }
+        ensures { λ r. ⌜ answeredCount r ≡ countEdges self rate now ⌝ }
     {
         if !now.in_range() {
             return Edges::Refused(Refusal::Time);
         }
-        if !rate.is_lcd() {
-            return Edges::Refused(Refusal::Rate);
-        }
-        if !self.valid(rate) {
-            return Edges::Refused(Refusal::Clock);
+        let check = self.checked(rate);
+        if let Check::Refused(refusal) = check {
+            return Edges::Refused(refusal);
         }
         Edges::Count(self.count_to(rate, now))
     }
@@ -196,9 +116,9 @@ impl Clock {
     // The clock moved by so few edges that its position has room in two words.
     fn move_by(self, rate: Rate, edges: u64) -> Clock
         requires { ⌜ isLcd rate ≡ true ⌝ }
-        requires { ⌜ validClock rate self ≡ true ⌝ }
+        requires { ⌜ validClock self rate ≡ true ⌝ }
         requires { ⌜ edges ≤ 2 ^ 50 ⌝ }
-        ensures { λ r. ⌜ r ≡ movedBy rate self edges ⌝ }
+        ensures { λ r. ⌜ r ≡ movedBy self rate edges ⌝ }
     {
         // Most clocks that are asked have no edge to pass, and a division is slow.
         if edges == 0 {
@@ -229,13 +149,11 @@ impl Clock {
     // The clock moved forward by edges. One whose last edge would be out of range is refused as
     // that time is.
     pub fn moved(self, rate: Rate, edges: u64) -> Made
-        ensures { λ r. ⌜ r ≡ moveClock rate self edges ⌝ }
+        ensures { λ r. ⌜ answeredClock r ≡ moveClock self rate edges ⌝ }
     {
-        if !rate.is_lcd() {
-            return Made::Refused(Refusal::Rate);
-        }
-        if !self.valid(rate) {
-            return Made::Refused(Refusal::Clock);
+        let check = self.checked(rate);
+        if let Check::Refused(refusal) = check {
+            return Made::Refused(refusal);
         }
         // More edges than any range of times holds at any LCD rate.
         if edges > 0x4_0000_0000_0000 {
@@ -251,16 +169,14 @@ impl Clock {
 
     // The clock moved to the last edge not later than now, by limit edges at the most.
     pub fn passed_to(self, rate: Rate, now: Time, limit: u64) -> Passed
-        ensures { λ r. ⌜ r ≡ passEdges rate self now limit ⌝ }
+        ensures { λ r. ⌜ answeredPass r ≡ passEdges self rate now limit ⌝ }
     {
         if !now.in_range() {
             return Passed::Refused(Refusal::Time);
         }
-        if !rate.is_lcd() {
-            return Passed::Refused(Refusal::Rate);
-        }
-        if !self.valid(rate) {
-            return Passed::Refused(Refusal::Clock);
+        let check = self.checked(rate);
+        if let Check::Refused(refusal) = check {
+            return Passed::Refused(refusal);
         }
         let count = smaller(self.count_to(rate, now), limit);
         let clock = self.move_by(rate, count);

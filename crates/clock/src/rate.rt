@@ -39,16 +39,14 @@ impl Rate {
     pub fn eq(self, other: Rate) -> bool
         ensures { λ r. ⌜ r ≡ sameRate self other ⌝ }
     {
-        if self.numerator == other.numerator {
-            return self.denominator == other.denominator;
-        }
-        false
+        (self.numerator == other.numerator) & (self.denominator == other.denominator)
     }
 
     // Whether some setting of the scan gives this rate.
     pub fn is_lcd(self) -> bool
         ensures { λ r. ⌜ r ≡ isLcd self ⌝ }
     {
+        // Two steps, since most rates go by rows and need no second test.
         if self.is_by_rows() {
             return true;
         }
@@ -59,39 +57,21 @@ impl Rate {
         ensures { λ r. ⌜ r ≡ byRows self ⌝ }
     {
         let rows = self.numerator / 1008;
-        if self.denominator == 1 {
-            if self.numerator == 1008 * rows {
-                if 16 <= rows {
-                    return rows <= 129;
-                }
-            }
-        }
-        false
+        (self.denominator == 1) & (self.numerator == 1008 * rows) & (16 <= rows) & (rows <= 129)
     }
 
     fn is_by_oscillator(self) -> bool
         ensures { λ r. ⌜ r ≡ byOscillator self ⌝ }
     {
-        if is_oscillator_rate(self.numerator) {
-            if 1 <= self.denominator {
-                return self.denominator <= 8;
-            }
-        }
-        false
+        is_oscillator_rate(self.numerator) & (1 <= self.denominator) & (self.denominator <= 8)
     }
 }
 
 fn is_oscillator_rate(numerator: u64) -> bool
     ensures { λ r. ⌜ r ≡ isOscillatorRate numerator ⌝ }
 {
-    if numerator == OSCILLATOR_RATES[0] {
-        return true;
-    }
-    if numerator == OSCILLATOR_RATES[1] {
-        return true;
-    }
-    if numerator == OSCILLATOR_RATES[2] {
-        return true;
-    }
-    numerator == OSCILLATOR_RATES[3]
+    (numerator == OSCILLATOR_RATES[0])
+        | (numerator == OSCILLATOR_RATES[1])
+        | (numerator == OSCILLATOR_RATES[2])
+        | (numerator == OSCILLATOR_RATES[3])
 }

@@ -1,7 +1,7 @@
 // Time in seconds and a 64-bit fraction of a second. Document 01, 'Clock'.
 ghost use mathlib.Core.Path.{_≡_};
 ghost use lib.Dec.{leb, ltb, eqb};
-ghost use Rattle.clock.specs.Time.{raw, timeOf, durationOf, microsRaw, inRange, sum};
+ghost use Rattle.clock.specs.Time.{raw, timeOf, zero, durationOf, microsRaw, inRange, sum};
 ghost use Rattle.clock.specs.Wide.{wideOf};
 use crate::wide::Wide;
 use crate::wide::div;
@@ -60,28 +60,21 @@ impl Time {
     pub fn lt(self, other: Time) -> bool
         ensures { λ r. ⌜ r ≡ ltb (raw self) (raw other) ⌝ }
     {
-        if self.seconds == other.seconds {
-            return self.fraction < other.fraction;
-        }
-        self.seconds < other.seconds
+        (self.seconds < other.seconds)
+            | ((self.seconds == other.seconds) & (self.fraction < other.fraction))
     }
 
     pub fn le(self, other: Time) -> bool
         ensures { λ r. ⌜ r ≡ leb (raw self) (raw other) ⌝ }
     {
-        if self.seconds == other.seconds {
-            return self.fraction <= other.fraction;
-        }
-        self.seconds < other.seconds
+        (self.seconds < other.seconds)
+            | ((self.seconds == other.seconds) & (self.fraction <= other.fraction))
     }
 
     pub fn eq(self, other: Time) -> bool
         ensures { λ r. ⌜ r ≡ eqb (raw self) (raw other) ⌝ }
     {
-        if self.seconds == other.seconds {
-            return self.fraction == other.fraction;
-        }
-        false
+        (self.seconds == other.seconds) & (self.fraction == other.fraction)
     }
 
     pub fn checked_add(self, duration: Duration) -> Sum
@@ -104,6 +97,13 @@ impl Time {
         }
         Sum::Overflow
     }
+}
+
+// Ties the constant to its definition.
+fn zero_time() -> Time
+    ensures { λ r. ⌜ r ≡ zero ⌝ }
+{
+    Time::ZERO
 }
 
 impl Duration {

@@ -2,7 +2,7 @@
 // halves of 32 bits: a product with a short number, and a quotient by one.
 ghost use mathlib.Core.Path.{_≡_};
 ghost use Prim.Native.Nat.{_+_, _-_, _*_, _/_, _^_, _<_, _≤_};
-ghost use Rattle.clock.specs.Wide.{value, wideOf, divided};
+ghost use Rattle.clock.specs.Wide.{value, wideOf, quotientOf};
 
 // high × 2^64 + low.
 pub struct Wide {
@@ -37,7 +37,7 @@ pub(crate) fn mul_add(w: Wide, m: u64, c: u64) -> Wide
 pub(crate) fn div(w: Wide, d: u64) -> Quotient
     requires { ⌜ 0 < d ⌝ }
     requires { ⌜ d < 2 ^ 32 ⌝ }
-    ensures { λ r. ⌜ r ≡ divided (value w) d ⌝ }
+    ensures { λ r. ⌜ r ≡ quotientOf (value w) d ⌝ }
 {
     let t = w.high % d * HALF + w.low / HALF;
     let u = t % d * HALF + w.low % HALF;

@@ -10,7 +10,6 @@ use Rattle.voltage.specs.declared.Level.{Level}
 use Rattle.scan.specs.declared.drive.Conditions.{Conditions}
 use Rattle.scan.specs.declared.drive.Common.{Common}
 use Rattle.scan.specs.declared.drive.LcdDrive.{LcdDrive}
-use Rattle.scan.specs.declared.drive.Driven.{Driven}
 use Rattle.scan.specs.Drive.{driveScan}
 use Rattle.ffi.specs.ClockWords.{time}
 use Rattle.ffi.specs.VoltageWords.{supplyOf, voltageWords}
@@ -81,6 +80,6 @@ electrodeWord (some v) = v
 electrodeWord none = 2 ^ 32
 
 -- the answer of the drive call, from what is lent
-abbrev pub drivenOf : (words bytes settings analog : List ℕ) → Conditions → (seconds fraction : ℕ) → (ram icons : List ℕ) → Driven
+abbrev pub drivenOf : (words bytes settings analog : List ℕ) → Conditions → (seconds fraction : ℕ) → (ram icons : List ℕ) → Option ℕ × (LcdDrive × ℕ)
 drivenOf words bytes settings analog conditions seconds fraction ram icons =
     driveScan (scanOf words bytes) (settingsOf settings) (volts.settingsOf analog) conditions (time seconds fraction) ram icons

@@ -3,3 +3,4 @@ pub mod ClockWords
 pub mod DriveWords
 pub mod ScanWords
 pub mod VoltageWords
+pub mod Words

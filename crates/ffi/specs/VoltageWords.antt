@@ -2,7 +2,6 @@
 use Prim.Native.Nat.{ℕ, _^_}
 use mathlib.Core.Bool.{Bool}
 use mathlib.Core.List.{List, [], _∷_}
-use mathlib.Core.Logic.{_⊎_, inl, inr}
 use mathlib.Core.Path.{_≡_}
 use lib.IntN.{ℤ}
 use lib.ListN.{getD}
@@ -11,7 +10,7 @@ use Rattle.voltage.specs.declared.Supply.{Supply}
 use Rattle.voltage.specs.declared.Level.{Level}
 use Rattle.voltage.specs.declared.LcdVoltages.{LcdVoltages}
 use Rattle.voltage.specs.declared.finder.Found.{Found}
-use Rattle.voltage.specs.Answers.{number}
+use Rattle.voltage.specs.Check.{number}
 use Rattle.voltage.specs.Finder.{Says}
 
 -- the settings of eight bytes
@@ -51,15 +50,6 @@ voltageWords v =
     ∷ levelWord (v .v4)
     ∷ []
 
--- 0, or the number of a refusal; and what a lent array that held w holds after the call
-abbrev pub answerNumber : ℕ ⊎ LcdVoltages → ℕ
-answerNumber (inl n) = n
-answerNumber (inr v) = 0
-
-abbrev pub answerWords : ℕ ⊎ LcdVoltages → List ℕ → List ℕ
-answerWords (inl n) w = w
-answerWords (inr v) w = voltageWords v
-
 -- the finder's: whether a pair was found, then its regulator and contrast
 abbrev pub foundNumber : Found → ℕ
 foundNumber (Found.Setting r c) = 0
@@ -72,8 +62,8 @@ foundWords Found.None w = 0 ∷ 0 ∷ 0 ∷ []
 foundWords (Found.Refused why) w = w
 
 -- the number and the words of an answer of which the finder's rule holds
-pub record FinderAnswers (low high : ℕ) (s : Settings) (temperature : ℤ) (before : List ℕ) (result : ℕ) (after : List ℕ) : Type 0 where
+pub record FinderAnswers (s : Settings) (temperature : ℤ) (low high : ℕ) (before : List ℕ) (result : ℕ) (after : List ℕ) : Type 0 where
   pub found : Found
-  pub says : Says low high s temperature found
+  pub says : Says s temperature low high found
   pub answers : result ≡ foundNumber found
   pub leaves : after ≡ foundWords found before

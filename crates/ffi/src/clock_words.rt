@@ -2,8 +2,10 @@
 // eight: its last edge, its period (two words and a remainder), denominator, fraction and ordinal.
 ghost use mathlib.Core.Path.{_≡_};
 ghost use Rattle.clock.specs.Time.{timeOf, microsRaw};
-ghost use Rattle.clock.specs.Clock.{number, newClock, checkClock, countEdges, moveClock, passEdges};
-ghost use Rattle.ffi.specs.ClockWords.{timeWords, time, rate, clockOf, clockWords, checkNumber, madeNumber, madeWords, edgesNumber, edgesWord, passedNumber, passedWord, passedWords};
+ghost use Rattle.clock.specs.Check.{number, refused, checkClock};
+ghost use Rattle.clock.specs.Edges.{answeredClock, answeredCount, answeredPass, newClock, countEdges, moveClock, passEdges};
+ghost use Rattle.ffi.specs.Words.{status, checkStatus, stored};
+ghost use Rattle.ffi.specs.ClockWords.{timeWords, time, rate, clockOf, clockWords, passedCount, passedWords};
 use clock::Check;
 use clock::Clock;
 use clock::Edges;
@@ -62,8 +64,8 @@ fn number_of(refusal: Refusal) -> u64
 
 // A clock that was made goes out, and a refusal leaves what is there.
 fn made(answer: Made, out: &mut [u64; 8]) -> u64
-    ensures answers { λ r. ⌜ r ≡ madeNumber answer ⌝ }
-    ensures leaves { λ _. ⌜ now (out .exit) ≡ madeWords answer (now (out .entry)) ⌝ }
+    ensures answers { λ r. ⌜ r ≡ status (answeredClock answer) ⌝ }
+    ensures leaves { λ _. ⌜ now (out .exit) ≡ stored clockWords (answeredClock answer) (now (out .entry)) ⌝ }
 {
     match answer {
         Made::Clock(clock) => {
@@ -75,7 +77,7 @@ fn made(answer: Made, out: &mut [u64; 8]) -> u64
 }
 
 fn checked(answer: Check) -> u64
-    ensures { λ r. ⌜ r ≡ checkNumber answer ⌝ }
+    ensures { λ r. ⌜ r ≡ checkStatus (refused answer) ⌝ }
 {
     match answer {
         Check::Passed => 0,
@@ -84,8 +86,8 @@ fn checked(answer: Check) -> u64
 }
 
 fn counted(answer: Edges, out: &mut u64) -> u64
-    ensures answers { λ r. ⌜ r ≡ edgesNumber answer ⌝ }
-    ensures leaves { λ _. ⌜ now (out .exit) ≡ edgesWord answer (now (out .entry)) ⌝ }
+    ensures answers { λ r. ⌜ r ≡ status (answeredCount answer) ⌝ }
+    ensures leaves { λ _. ⌜ now (out .exit) ≡ stored (λ n. n) (answeredCount answer) (now (out .entry)) ⌝ }
 {
     match answer {
         Edges::Count(edges) => {
@@ -97,9 +99,9 @@ fn counted(answer: Edges, out: &mut u64) -> u64
 }
 
 fn passed(answer: Passed, count: &mut u64, out: &mut [u64; 8]) -> u64
-    ensures answers { λ r. ⌜ r ≡ passedNumber answer ⌝ }
-    ensures counts { λ _. ⌜ now (count .exit) ≡ passedWord answer (now (count .entry)) ⌝ }
-    ensures leaves { λ _. ⌜ now (out .exit) ≡ passedWords answer (now (out .entry)) ⌝ }
+    ensures answers { λ r. ⌜ r ≡ status (answeredPass answer) ⌝ }
+    ensures counts { λ _. ⌜ now (count .exit) ≡ stored passedCount (answeredPass answer) (now (count .entry)) ⌝ }
+    ensures leaves { λ _. ⌜ now (out .exit) ≡ stored passedWords (answeredPass answer) (now (out .entry)) ⌝ }
 {
     match answer {
         Passed::Edges {
@@ -132,8 +134,8 @@ pub extern "C" fn nt7508_clock_new(
     q: u64,
     out: &mut [u64; 8],
 ) -> u64
-    ensures answers { λ r. ⌜ r ≡ madeNumber (newClock (time seconds fraction) (rate p q)) ⌝ }
-    ensures leaves { λ _. ⌜ now (out .exit) ≡ madeWords (newClock (time seconds fraction) (rate p q)) (now (out .entry)) ⌝ }
+    ensures answers { λ r. ⌜ r ≡ status (newClock (time seconds fraction) (rate p q)) ⌝ }
+    ensures leaves { λ _. ⌜ now (out .exit) ≡ stored clockWords (newClock (time seconds fraction) (rate p q)) (now (out .entry)) ⌝ }
 {
     let at = Time {
         seconds: seconds,
@@ -149,7 +151,7 @@ pub extern "C" fn nt7508_clock_new(
 // Whether a clock passes the checks of its rate.
 #[no_mangle]
 pub extern "C" fn nt7508_clock_check(clock: &[u64; 8], p: u64, q: u64) -> u64
-    ensures { λ r. ⌜ r ≡ checkNumber (checkClock (rate p q) (clockOf (now (clock .entry)))) ⌝ }
+    ensures { λ r. ⌜ r ≡ checkStatus (checkClock (clockOf (now (clock .entry))) (rate p q)) ⌝ }
 {
     let rate = Rate {
         numerator: p,
@@ -168,8 +170,8 @@ pub extern "C" fn nt7508_clock_edges_to(
     fraction: u64,
     out: &mut u64,
 ) -> u64
-    ensures answers { λ r. ⌜ r ≡ edgesNumber (countEdges (rate p q) (clockOf (now (clock .entry))) (time seconds fraction)) ⌝ }
-    ensures leaves { λ _. ⌜ now (out .exit) ≡ edgesWord (countEdges (rate p q) (clockOf (now (clock .entry))) (time seconds fraction)) (now (out .entry)) ⌝ }
+    ensures answers { λ r. ⌜ r ≡ status (countEdges (clockOf (now (clock .entry))) (rate p q) (time seconds fraction)) ⌝ }
+    ensures leaves { λ _. ⌜ now (out .exit) ≡ stored (λ n. n) (countEdges (clockOf (now (clock .entry))) (rate p q) (time seconds fraction)) (now (out .entry)) ⌝ }
 {
     let rate = Rate {
         numerator: p,
@@ -185,8 +187,8 @@ pub extern "C" fn nt7508_clock_edges_to(
 // The clock moved forward by edges, in place.
 #[no_mangle]
 pub extern "C" fn nt7508_clock_moved(clock: &mut [u64; 8], p: u64, q: u64, edges: u64) -> u64
-    ensures answers { λ r. ⌜ r ≡ madeNumber (moveClock (rate p q) (clockOf (now (clock .entry))) edges) ⌝ }
-    ensures leaves { λ _. ⌜ now (clock .exit) ≡ madeWords (moveClock (rate p q) (clockOf (now (clock .entry))) edges) (now (clock .entry)) ⌝ }
+    ensures answers { λ r. ⌜ r ≡ status (moveClock (clockOf (now (clock .entry))) (rate p q) edges) ⌝ }
+    ensures leaves { λ _. ⌜ now (clock .exit) ≡ stored clockWords (moveClock (clockOf (now (clock .entry))) (rate p q) edges) (now (clock .entry)) ⌝ }
 {
     let rate = Rate {
         numerator: p,
@@ -206,9 +208,9 @@ pub extern "C" fn nt7508_clock_passed_to(
     limit: u64,
     count: &mut u64,
 ) -> u64
-    ensures answers { λ r. ⌜ r ≡ passedNumber (passEdges (rate p q) (clockOf (now (clock .entry))) (time seconds fraction) limit) ⌝ }
-    ensures counts { λ _. ⌜ now (count .exit) ≡ passedWord (passEdges (rate p q) (clockOf (now (clock .entry))) (time seconds fraction) limit) (now (count .entry)) ⌝ }
-    ensures leaves { λ _. ⌜ now (clock .exit) ≡ passedWords (passEdges (rate p q) (clockOf (now (clock .entry))) (time seconds fraction) limit) (now (clock .entry)) ⌝ }
+    ensures answers { λ r. ⌜ r ≡ status (passEdges (clockOf (now (clock .entry))) (rate p q) (time seconds fraction) limit) ⌝ }
+    ensures counts { λ _. ⌜ now (count .exit) ≡ stored passedCount (passEdges (clockOf (now (clock .entry))) (rate p q) (time seconds fraction) limit) (now (count .entry)) ⌝ }
+    ensures leaves { λ _. ⌜ now (clock .exit) ≡ stored passedWords (passEdges (clockOf (now (clock .entry))) (rate p q) (time seconds fraction) limit) (now (clock .entry)) ⌝ }
 {
     let rate = Rate {
         numerator: p,

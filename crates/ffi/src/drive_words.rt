@@ -1,8 +1,9 @@
 // The drive and its electrodes over words. A drive is 12 words: the selected common, or 129; the two
 // words of the segments; whether it is inverted, and grounded; then the seven words of its voltages.
 ghost use mathlib.Core.Path.{_≡_};
-ghost use Rattle.scan.specs.Drive.{microvolts, commonMicrovolts, segmentMicrovolts};
-ghost use Rattle.ffi.specs.ScanWords.{checkNumber, leftWords};
+ghost use Rattle.scan.specs.Drive.{microvolts, answeredDrive, commonMicrovolts, segmentMicrovolts};
+ghost use Rattle.checks.specs.Checks.{unlessRefused};
+ghost use Rattle.ffi.specs.Words.{checkStatus};
 ghost use Rattle.ffi.specs.DriveWords.{conditionsOf, drivenOf, commonWord, driveWords, commonOf, levelOf, driveOf, electrodeWord};
 use crate::scan_words::flag_byte;
 use crate::scan_words::number_of;
@@ -12,6 +13,7 @@ use clock::Time;
 use scan::Check;
 use scan::Common;
 use scan::Conditions;
+use scan::Driven;
 use scan::Electrode;
 use scan::LcdDrive;
 use voltage::LcdVoltages;
@@ -56,14 +58,18 @@ fn words_of(drive: LcdDrive) -> [u64; 12]
     ]
 }
 
-// A drive goes out, and a refusal leaves what is there.
-fn put_drive(check: Check, drive: LcdDrive, out: &mut [u64; 12]) -> u64
-    ensures answers { λ r. ⌜ r ≡ checkNumber check ⌝ }
-    ensures leaves { λ _. ⌜ now (out .exit) ≡ leftWords check (driveWords drive) (now (out .entry)) ⌝ }
+// A drive and its frame go out, and a refusal leaves what is there.
+fn put_drive(answer: Driven, out: &mut [u64; 12], frame: &mut u16) -> u64
+    ensures answers { λ r. ⌜ r ≡ checkStatus (answeredDrive answer .0) ⌝ }
+    ensures leaves { λ _. ⌜ now (out .exit) ≡ unlessRefused (answeredDrive answer .0) (driveWords (answeredDrive answer .1 .0)) (now (out .entry)) ⌝ }
+    ensures frames { λ _. ⌜ now (frame .exit) ≡ unlessRefused (answeredDrive answer .0) (answeredDrive answer .1 .1) (now (frame .entry)) ⌝ }
 {
+    let check = answer.check;
+    let drive = answer.drive;
     match check {
         Check::Passed => {
             *out = words_of(drive);
+            *frame = answer.frame;
             0
         }
         Check::Refused(refusal) => number_of(refusal),
@@ -124,7 +130,7 @@ fn electrode_word(electrode: Electrode) -> u64
     }
 }
 
-// The drive at a moment.
+// The drive at a moment, and the frame of the scan shown (duty x PWM; 0 where undriven).
 #[no_mangle]
 pub extern "C" fn nt7508_scan_drive(
     ram: &[u8],
@@ -142,9 +148,11 @@ pub extern "C" fn nt7508_scan_drive(
     seconds: u64,
     fraction: u64,
     out: &mut [u64; 12],
+    frame: &mut u16,
 ) -> u64
-    ensures answers { λ r. ⌜ r ≡ checkNumber (drivenOf (now (words .entry)) (now (bytes .entry)) (now (settings .entry)) (now (analog .entry)) (conditionsOf «display_on» «oscillator_enabled» millivolts temperature «power_save» waiting) seconds fraction (now (ram .entry)) (now (icons .entry)) .check) ⌝ }
-    ensures leaves { λ _. ⌜ now (out .exit) ≡ leftWords (drivenOf (now (words .entry)) (now (bytes .entry)) (now (settings .entry)) (now (analog .entry)) (conditionsOf «display_on» «oscillator_enabled» millivolts temperature «power_save» waiting) seconds fraction (now (ram .entry)) (now (icons .entry)) .check) (driveWords (drivenOf (now (words .entry)) (now (bytes .entry)) (now (settings .entry)) (now (analog .entry)) (conditionsOf «display_on» «oscillator_enabled» millivolts temperature «power_save» waiting) seconds fraction (now (ram .entry)) (now (icons .entry)) .drive)) (now (out .entry)) ⌝ }
+    ensures answers { λ r. ⌜ r ≡ checkStatus (drivenOf (now (words .entry)) (now (bytes .entry)) (now (settings .entry)) (now (analog .entry)) (conditionsOf «display_on» «oscillator_enabled» millivolts temperature «power_save» waiting) seconds fraction (now (ram .entry)) (now (icons .entry)) .0) ⌝ }
+    ensures leaves { λ _. ⌜ now (out .exit) ≡ unlessRefused (drivenOf (now (words .entry)) (now (bytes .entry)) (now (settings .entry)) (now (analog .entry)) (conditionsOf «display_on» «oscillator_enabled» millivolts temperature «power_save» waiting) seconds fraction (now (ram .entry)) (now (icons .entry)) .0) (driveWords (drivenOf (now (words .entry)) (now (bytes .entry)) (now (settings .entry)) (now (analog .entry)) (conditionsOf «display_on» «oscillator_enabled» millivolts temperature «power_save» waiting) seconds fraction (now (ram .entry)) (now (icons .entry)) .1 .0)) (now (out .entry)) ⌝ }
+    ensures frames { λ _. ⌜ now (frame .exit) ≡ unlessRefused (drivenOf (now (words .entry)) (now (bytes .entry)) (now (settings .entry)) (now (analog .entry)) (conditionsOf «display_on» «oscillator_enabled» millivolts temperature «power_save» waiting) seconds fraction (now (ram .entry)) (now (icons .entry)) .0) (drivenOf (now (words .entry)) (now (bytes .entry)) (now (settings .entry)) (now (analog .entry)) (conditionsOf «display_on» «oscillator_enabled» millivolts temperature «power_save» waiting) seconds fraction (now (ram .entry)) (now (icons .entry)) .1 .1) (now (frame .entry)) ⌝ }
 {
     let conditions = Conditions {
         display_on: display_on,
@@ -169,9 +177,7 @@ pub extern "C" fn nt7508_scan_drive(
         ram,
         icons,
     );
-    let check = driven.check;
-    let drive = driven.drive;
-    put_drive(check, drive, out)
+    put_drive(driven, out, frame)
 }
 
 // The voltage of a common in a drive, in microvolts, or 2^32 for none.

@@ -1,7 +1,7 @@
 // The layers of the display controller for callers in other languages: numbers and arrays of words
 // in and out, one module for each layer. A call that is turned down answers the number that
 // document 01's table gives and changes no lent array; any other answers 0.
-mod clock_words;
+pub mod clock_words;
 pub mod drive_words;
 pub mod scan_words;
-mod voltage_words;
+pub mod voltage_words;

@@ -1,21 +1,30 @@
 // The scan over words and bytes. The settings are twenty bytes, in the order in which the original
 // declares them, the palette taking eight. A scan is 13 words: whether its clock runs, the clock's
-// eight words, the rate, and the two words of the latch; and 14 bytes: its other fields in their
-// order. A yes or no is a byte or word other than 0, or 0.
+// eight words, the rate, and the two words of the latch; and 14 bytes: its other fields in the
+// original's order. A yes or no is a byte or word other than 0, or 0.
 ghost use mathlib.Core.Path.{_≡_};
-ghost use Rattle.scan.specs.State.{number};
-ghost use Rattle.scan.specs.Image.{checkImage, rendered};
-ghost use Rattle.ffi.specs.ScanWords.{flagByte, settingsOf, pageOf, runningOf, runningWords, scanOf, scanWords, scanBytes, checkNumber, leftWord, wordsAfter, bytesAfter, countedOf, retainedOf, updatedOf, stoppedOf};
+ghost use lib.ListN.{length};
+ghost use Rattle.checks.specs.Checks.{unlessRefused};
+ghost use Rattle.scan.specs.Check.{number, refused, answered, checkImage};
+ghost use Rattle.scan.specs.Image.{rendered};
+ghost use Rattle.ffi.specs.Words.{checkStatus};
+ghost use Rattle.ffi.specs.ScanWords.{flagByte, settingsOf, pageOf, runningOf, runningWords, scanOf, scanWords, scanBytes, countedOf, beforeOf, afterOf, fallenOf};
 use crate::clock_words::clock_of;
 use crate::clock_words::words_of;
 use clock::Rate;
 use clock::Time;
+use scan::Changed;
 use scan::Check;
 use scan::DataPage;
+use scan::Frame;
+use scan::Inversion;
+use scan::Latch;
 use scan::Refusal;
+use scan::Running;
 use scan::Scan;
 use scan::ScanClock;
 use scan::Settings;
+use scan::Ticking;
 
 pub(crate) fn flag_byte(yes: bool) -> u8
     ensures { λ r. ⌜ r ≡ flagByte yes ⌝ }
@@ -67,26 +76,34 @@ pub(crate) fn scan_of(w: &[u64; 13], b: &[u8; 14]) -> Scan
     let words = [w[1], w[2], w[3], w[4], w[5], w[6], w[7], w[8]];
     let clock = running_of(w[0], &words);
     Scan {
-        clock: clock,
-        rate: Rate {
-            numerator: w[9],
-            denominator: w[10],
+        ticking: Ticking {
+            clock: clock,
+            rate: Rate {
+                numerator: w[9],
+                denominator: w[10],
+            },
         },
-        duty: b[0],
-        icon: b[1] != 0,
-        initial_com: b[2],
-        common_reverse: b[3] != 0,
-        start_line: b[4],
+        latch: Latch {
+            segments: [w[11], w[12]],
+            latched: b[13] != 0,
+        },
+        frame: Frame {
+            duty: b[0],
+            icon: b[1] != 0,
+            initial_com: b[2],
+            common_reverse: b[3] != 0,
+            start_line: b[4],
+            frc_count: b[6],
+        },
         pwm: b[5],
-        frc_count: b[6],
         row: b[7],
         step: b[8],
         frc: b[9],
-        inversion_lines: b[10],
-        inversion_count: b[11],
-        inverted: b[12] != 0,
-        segments: [w[11], w[12]],
-        latched: b[13] != 0,
+        inversion: Inversion {
+            lines: b[10],
+            count: b[11],
+            inverted: b[12] != 0,
+        },
     }
 }
 
@@ -106,10 +123,12 @@ fn running_words(clock: ScanClock) -> [u64; 9]
 fn scan_words(scan: Scan) -> [u64; 13]
     ensures { λ r. ⌜ r ≡ scanWords scan ⌝ }
 {
-    let clock = scan.clock;
+    let ticking = scan.ticking;
+    let clock = ticking.clock;
     let c = running_words(clock);
-    let rate = scan.rate;
-    let segments = scan.segments;
+    let rate = ticking.rate;
+    let latch = scan.latch;
+    let segments = latch.segments;
     [
         c[0],
         c[1],
@@ -130,21 +149,24 @@ fn scan_words(scan: Scan) -> [u64; 13]
 fn scan_bytes(scan: Scan) -> [u8; 14]
     ensures { λ r. ⌜ r ≡ scanBytes scan ⌝ }
 {
+    let latch = scan.latch;
+    let frame = scan.frame;
+    let inversion = scan.inversion;
     [
-        scan.duty,
-        flag_byte(scan.icon),
-        scan.initial_com,
-        flag_byte(scan.common_reverse),
-        scan.start_line,
+        frame.duty,
+        flag_byte(frame.icon),
+        frame.initial_com,
+        flag_byte(frame.common_reverse),
+        frame.start_line,
         scan.pwm,
-        scan.frc_count,
+        frame.frc_count,
         scan.row,
         scan.step,
         scan.frc,
-        scan.inversion_lines,
-        scan.inversion_count,
-        flag_byte(scan.inverted),
-        flag_byte(scan.latched),
+        inversion.lines,
+        inversion.count,
+        flag_byte(inversion.inverted),
+        flag_byte(latch.latched),
     ]
 }
 
@@ -162,7 +184,7 @@ pub(crate) fn number_of(refusal: Refusal) -> u64
 }
 
 fn checked(check: Check) -> u64
-    ensures { λ r. ⌜ r ≡ checkNumber check ⌝ }
+    ensures { λ r. ⌜ r ≡ checkStatus (refused check) ⌝ }
 {
     match check {
         Check::Passed => 0,
@@ -171,11 +193,13 @@ fn checked(check: Check) -> u64
 }
 
 // A scan goes out, and a refusal leaves what is there.
-fn put_scan(check: Check, scan: Scan, words: &mut [u64; 13], bytes: &mut [u8; 14]) -> u64
-    ensures answers { λ r. ⌜ r ≡ checkNumber check ⌝ }
-    ensures words { λ _. ⌜ now (words .exit) ≡ wordsAfter check scan (now (words .entry)) ⌝ }
-    ensures bytes { λ _. ⌜ now (bytes .exit) ≡ bytesAfter check scan (now (bytes .entry)) ⌝ }
+fn put_scan(answer: Changed, words: &mut [u64; 13], bytes: &mut [u8; 14]) -> u64
+    ensures answers { λ r. ⌜ r ≡ checkStatus (answered answer .0) ⌝ }
+    ensures words { λ _. ⌜ now (words .exit) ≡ unlessRefused (answered answer .0) (scanWords (answered answer .1)) (now (words .entry)) ⌝ }
+    ensures bytes { λ _. ⌜ now (bytes .exit) ≡ unlessRefused (answered answer .0) (scanBytes (answered answer .1)) (now (bytes .entry)) ⌝ }
 {
+    let check = answer.check;
+    let scan = answer.scan;
     match check {
         Check::Passed => {
             *words = scan_words(scan);
@@ -187,7 +211,7 @@ fn put_scan(check: Check, scan: Scan, words: &mut [u64; 13], bytes: &mut [u8; 14
 }
 
 fn put_pieces(check: Check, pieces: u8, out: &mut u8)
-    ensures { λ _. ⌜ now (out .exit) ≡ leftWord check pieces (now (out .entry)) ⌝ }
+    ensures { λ _. ⌜ now (out .exit) ≡ unlessRefused (refused check) pieces (now (out .entry)) ⌝ }
 {
     if let Check::Passed = check {
         *out = pieces;
@@ -204,47 +228,59 @@ pub extern "C" fn nt7508_scan_count_to(
     fraction: u64,
     pieces: &mut u8,
 ) -> u64
-    ensures answers { λ r. ⌜ r ≡ checkNumber (countedOf (now (settings .entry)) (now (words .entry)) (now (bytes .entry)) seconds fraction .check) ⌝ }
-    ensures counts { λ _. ⌜ now (pieces .exit) ≡ leftWord (countedOf (now (settings .entry)) (now (words .entry)) (now (bytes .entry)) seconds fraction .check) (countedOf (now (settings .entry)) (now (words .entry)) (now (bytes .entry)) seconds fraction .pieces) (now (pieces .entry)) ⌝ }
-    ensures words { λ _. ⌜ now (words .exit) ≡ wordsAfter (countedOf (now (settings .entry)) (now (words .entry)) (now (bytes .entry)) seconds fraction .check) (countedOf (now (settings .entry)) (now (words .entry)) (now (bytes .entry)) seconds fraction .scan) (now (words .entry)) ⌝ }
-    ensures bytes { λ _. ⌜ now (bytes .exit) ≡ bytesAfter (countedOf (now (settings .entry)) (now (words .entry)) (now (bytes .entry)) seconds fraction .check) (countedOf (now (settings .entry)) (now (words .entry)) (now (bytes .entry)) seconds fraction .scan) (now (bytes .entry)) ⌝ }
+    ensures answers { λ r. ⌜ r ≡ checkStatus (countedOf (now (words .entry)) (now (bytes .entry)) (now (settings .entry)) seconds fraction .0) ⌝ }
+    ensures counts { λ _. ⌜ now (pieces .exit) ≡ unlessRefused (countedOf (now (words .entry)) (now (bytes .entry)) (now (settings .entry)) seconds fraction .0) (countedOf (now (words .entry)) (now (bytes .entry)) (now (settings .entry)) seconds fraction .1 .1) (now (pieces .entry)) ⌝ }
+    ensures words { λ _. ⌜ now (words .exit) ≡ unlessRefused (countedOf (now (words .entry)) (now (bytes .entry)) (now (settings .entry)) seconds fraction .0) (scanWords (countedOf (now (words .entry)) (now (bytes .entry)) (now (settings .entry)) seconds fraction .1 .0)) (now (words .entry)) ⌝ }
+    ensures bytes { λ _. ⌜ now (bytes .exit) ≡ unlessRefused (countedOf (now (words .entry)) (now (bytes .entry)) (now (settings .entry)) seconds fraction .0) (scanBytes (countedOf (now (words .entry)) (now (bytes .entry)) (now (settings .entry)) seconds fraction .1 .0)) (now (bytes .entry)) ⌝ }
 {
-    let moment = Time {
+    let now = Time {
         seconds: seconds,
         fraction: fraction,
     };
-    let counted = scan_of(words, bytes).count_to(settings_of(settings), moment);
+    let counted = scan_of(words, bytes).count_to(settings_of(settings), now);
     let check = counted.check;
-    let next = counted.scan;
+    let scan = counted.scan;
     put_pieces(check, counted.pieces, pieces);
-    put_scan(check, next, words, bytes)
+    let answer = Changed {
+        check: check,
+        scan: scan,
+    };
+    put_scan(answer, words, bytes)
 }
 
-// The scan with its latch kept before a data byte for a page, or before a command, in place.
+// The scan as a data byte for a page, or a command, has to find it at a moment, in place.
 #[no_mangle]
-pub extern "C" fn nt7508_scan_retain(
+pub extern "C" fn nt7508_scan_before_byte(
     ram: &[u8],
     icons: &[u8],
     settings: &[u8; 20],
     words: &mut [u64; 13],
     bytes: &mut [u8; 14],
+    seconds: u64,
+    fraction: u64,
     sent: bool,
     page: u8,
 ) -> u64
-    ensures answers { λ r. ⌜ r ≡ checkNumber (retainedOf (now (settings .entry)) (now (words .entry)) (now (bytes .entry)) sent page (now (ram .entry)) (now (icons .entry)) .check) ⌝ }
-    ensures words { λ _. ⌜ now (words .exit) ≡ wordsAfter (retainedOf (now (settings .entry)) (now (words .entry)) (now (bytes .entry)) sent page (now (ram .entry)) (now (icons .entry)) .check) (retainedOf (now (settings .entry)) (now (words .entry)) (now (bytes .entry)) sent page (now (ram .entry)) (now (icons .entry)) .scan) (now (words .entry)) ⌝ }
-    ensures bytes { λ _. ⌜ now (bytes .exit) ≡ bytesAfter (retainedOf (now (settings .entry)) (now (words .entry)) (now (bytes .entry)) sent page (now (ram .entry)) (now (icons .entry)) .check) (retainedOf (now (settings .entry)) (now (words .entry)) (now (bytes .entry)) sent page (now (ram .entry)) (now (icons .entry)) .scan) (now (bytes .entry)) ⌝ }
+    ensures answers { λ r. ⌜ r ≡ checkStatus (beforeOf (now (words .entry)) (now (bytes .entry)) (now (settings .entry)) seconds fraction sent page (now (ram .entry)) (now (icons .entry)) .0) ⌝ }
+    ensures words { λ _. ⌜ now (words .exit) ≡ unlessRefused (beforeOf (now (words .entry)) (now (bytes .entry)) (now (settings .entry)) seconds fraction sent page (now (ram .entry)) (now (icons .entry)) .0) (scanWords (beforeOf (now (words .entry)) (now (bytes .entry)) (now (settings .entry)) seconds fraction sent page (now (ram .entry)) (now (icons .entry)) .1)) (now (words .entry)) ⌝ }
+    ensures bytes { λ _. ⌜ now (bytes .exit) ≡ unlessRefused (beforeOf (now (words .entry)) (now (bytes .entry)) (now (settings .entry)) seconds fraction sent page (now (ram .entry)) (now (icons .entry)) .0) (scanBytes (beforeOf (now (words .entry)) (now (bytes .entry)) (now (settings .entry)) seconds fraction sent page (now (ram .entry)) (now (icons .entry)) .1)) (now (bytes .entry)) ⌝ }
 {
+    let moment = Time {
+        seconds: seconds,
+        fraction: fraction,
+    };
     let before = scan_of(words, bytes);
-    let changed = before.retain(settings_of(settings), page_of(sent, page), ram, icons);
-    let check = changed.check;
-    let next = changed.scan;
-    put_scan(check, next, words, bytes)
+    let present = settings_of(settings);
+    put_scan(
+        before.before_byte(present, moment, page_of(sent, page), ram, icons),
+        words,
+        bytes,
+    )
 }
 
-// The scan after a byte or a warm rise, in place, by whether it ran before and runs after.
+// The scan after a byte or a warm rise at a moment, in place, by whether it ran before and runs after.
 #[no_mangle]
-pub extern "C" fn nt7508_scan_update_clock(
+pub extern "C" fn nt7508_scan_after_byte(
     ram: &[u8],
     icons: &[u8],
     settings: &[u8; 20],
@@ -255,9 +291,9 @@ pub extern "C" fn nt7508_scan_update_clock(
     was_running: bool,
     running: bool,
 ) -> u64
-    ensures answers { λ r. ⌜ r ≡ checkNumber (updatedOf (now (settings .entry)) (now (words .entry)) (now (bytes .entry)) seconds fraction «was_running» running (now (ram .entry)) (now (icons .entry)) .check) ⌝ }
-    ensures words { λ _. ⌜ now (words .exit) ≡ wordsAfter (updatedOf (now (settings .entry)) (now (words .entry)) (now (bytes .entry)) seconds fraction «was_running» running (now (ram .entry)) (now (icons .entry)) .check) (updatedOf (now (settings .entry)) (now (words .entry)) (now (bytes .entry)) seconds fraction «was_running» running (now (ram .entry)) (now (icons .entry)) .scan) (now (words .entry)) ⌝ }
-    ensures bytes { λ _. ⌜ now (bytes .exit) ≡ bytesAfter (updatedOf (now (settings .entry)) (now (words .entry)) (now (bytes .entry)) seconds fraction «was_running» running (now (ram .entry)) (now (icons .entry)) .check) (updatedOf (now (settings .entry)) (now (words .entry)) (now (bytes .entry)) seconds fraction «was_running» running (now (ram .entry)) (now (icons .entry)) .scan) (now (bytes .entry)) ⌝ }
+    ensures answers { λ r. ⌜ r ≡ checkStatus (afterOf (now (words .entry)) (now (bytes .entry)) (now (settings .entry)) seconds fraction «was_running» running (now (ram .entry)) (now (icons .entry)) .0) ⌝ }
+    ensures words { λ _. ⌜ now (words .exit) ≡ unlessRefused (afterOf (now (words .entry)) (now (bytes .entry)) (now (settings .entry)) seconds fraction «was_running» running (now (ram .entry)) (now (icons .entry)) .0) (scanWords (afterOf (now (words .entry)) (now (bytes .entry)) (now (settings .entry)) seconds fraction «was_running» running (now (ram .entry)) (now (icons .entry)) .1)) (now (words .entry)) ⌝ }
+    ensures bytes { λ _. ⌜ now (bytes .exit) ≡ unlessRefused (afterOf (now (words .entry)) (now (bytes .entry)) (now (settings .entry)) seconds fraction «was_running» running (now (ram .entry)) (now (icons .entry)) .0) (scanBytes (afterOf (now (words .entry)) (now (bytes .entry)) (now (settings .entry)) seconds fraction «was_running» running (now (ram .entry)) (now (icons .entry)) .1)) (now (bytes .entry)) ⌝ }
 {
     let moment = Time {
         seconds: seconds,
@@ -265,23 +301,33 @@ pub extern "C" fn nt7508_scan_update_clock(
     };
     let before = scan_of(words, bytes);
     let present = settings_of(settings);
-    let changed = before.update_clock(present, moment, was_running, running, ram, icons);
-    let check = changed.check;
-    let next = changed.scan;
-    put_scan(check, next, words, bytes)
+    let runs = Running::after(was_running, running);
+    put_scan(
+        before.after_byte(present, moment, runs, ram, icons),
+        words,
+        bytes,
+    )
 }
 
-// The scan with its clock dropped, in place.
+// The scan after a fall of the supply at a moment, in place.
 #[no_mangle]
-pub extern "C" fn nt7508_scan_stop(words: &mut [u64; 13], bytes: &mut [u8; 14]) -> u64
-    ensures answers { λ r. ⌜ r ≡ checkNumber (stoppedOf (now (words .entry)) (now (bytes .entry)) .check) ⌝ }
-    ensures words { λ _. ⌜ now (words .exit) ≡ wordsAfter (stoppedOf (now (words .entry)) (now (bytes .entry)) .check) (stoppedOf (now (words .entry)) (now (bytes .entry)) .scan) (now (words .entry)) ⌝ }
-    ensures bytes { λ _. ⌜ now (bytes .exit) ≡ bytesAfter (stoppedOf (now (words .entry)) (now (bytes .entry)) .check) (stoppedOf (now (words .entry)) (now (bytes .entry)) .scan) (now (bytes .entry)) ⌝ }
+pub extern "C" fn nt7508_scan_fall(
+    settings: &[u8; 20],
+    words: &mut [u64; 13],
+    bytes: &mut [u8; 14],
+    seconds: u64,
+    fraction: u64,
+) -> u64
+    ensures answers { λ r. ⌜ r ≡ checkStatus (fallenOf (now (words .entry)) (now (bytes .entry)) (now (settings .entry)) seconds fraction .0) ⌝ }
+    ensures words { λ _. ⌜ now (words .exit) ≡ unlessRefused (fallenOf (now (words .entry)) (now (bytes .entry)) (now (settings .entry)) seconds fraction .0) (scanWords (fallenOf (now (words .entry)) (now (bytes .entry)) (now (settings .entry)) seconds fraction .1)) (now (words .entry)) ⌝ }
+    ensures bytes { λ _. ⌜ now (bytes .exit) ≡ unlessRefused (fallenOf (now (words .entry)) (now (bytes .entry)) (now (settings .entry)) seconds fraction .0) (scanBytes (fallenOf (now (words .entry)) (now (bytes .entry)) (now (settings .entry)) seconds fraction .1)) (now (bytes .entry)) ⌝ }
 {
-    let changed = scan_of(words, bytes).stop();
-    let check = changed.check;
-    let next = changed.scan;
-    put_scan(check, next, words, bytes)
+    let now = Time {
+        seconds: seconds,
+        fraction: fraction,
+    };
+    let before = scan_of(words, bytes);
+    put_scan(before.fall(settings_of(settings), now), words, bytes)
 }
 
 // The gray image, where the glass is driven or not.
@@ -293,8 +339,8 @@ pub extern "C" fn nt7508_scan_render(
     settings: &[u8; 20],
     driven: bool,
 ) -> u64
-    ensures answers { λ r. ⌜ r ≡ checkNumber (checkImage (settingsOf (now (settings .entry))) (now (ram .entry)) (now (icons .entry)) (now (image .entry))) ⌝ }
-    ensures leaves { λ _. ⌜ now (image .exit) ≡ rendered driven (settingsOf (now (settings .entry))) (now (ram .entry)) (now (icons .entry)) (now (image .entry)) ⌝ }
+    ensures answers { λ r. ⌜ r ≡ checkStatus (checkImage (settingsOf (now (settings .entry))) (now (ram .entry)) (now (icons .entry)) (length (now (image .entry)))) ⌝ }
+    ensures leaves { λ _. ⌜ now (image .exit) ≡ rendered (settingsOf (now (settings .entry))) driven (now (ram .entry)) (now (icons .entry)) (now (image .entry)) ⌝ }
 {
     checked(scan::render(settings_of(settings), driven, ram, icons, image))
 }

@@ -2,9 +2,10 @@
 // which the original declares them: contrast, regulator, power control, booster, bias, temperature
 // slope, contrast trim, OTP control.
 ghost use mathlib.Core.Path.{_≡_};
-ghost use Rattle.voltage.specs.Check.{validSettings};
-ghost use Rattle.voltage.specs.Answers.{number, answered, answerOf};
-ghost use Rattle.ffi.specs.VoltageWords.{settingsOf, supplyOf, levelWord, voltageWords, answerNumber, answerWords, foundNumber, foundWords, FinderAnswers};
+ghost use Rattle.voltage.specs.Check.{number, validSettings};
+ghost use Rattle.voltage.specs.Answers.{answered, answerOf};
+ghost use Rattle.ffi.specs.Words.{status, stored};
+ghost use Rattle.ffi.specs.VoltageWords.{settingsOf, supplyOf, levelWord, voltageWords, foundNumber, foundWords, FinderAnswers};
 use voltage::Answer;
 use voltage::LcdVoltages;
 use voltage::Level;
@@ -68,8 +69,8 @@ fn number_of(refusal: Refusal) -> u64
 
 // Voltages go out, and a refusal leaves what is there.
 fn put(answer: Answer, out: &mut [u64; 7]) -> u64
-    ensures answers { λ r. ⌜ r ≡ answerNumber (answered answer) ⌝ }
-    ensures leaves { λ _. ⌜ now (out .exit) ≡ answerWords (answered answer) (now (out .entry)) ⌝ }
+    ensures answers { λ r. ⌜ r ≡ status (answered answer) ⌝ }
+    ensures leaves { λ _. ⌜ now (out .exit) ≡ stored voltageWords (answered answer) (now (out .entry)) ⌝ }
 {
     match answer {
         Answer::Voltages(voltages) => {
@@ -118,8 +119,8 @@ pub extern "C" fn nt7508_voltages(
     waiting: bool,
     out: &mut [u64; 7],
 ) -> u64
-    ensures answers { λ r. ⌜ r ≡ answerNumber (answerOf (settingsOf (now (settings .entry))) (supplyOf millivolts temperature «power_save» waiting)) ⌝ }
-    ensures leaves { λ _. ⌜ now (out .exit) ≡ answerWords (answerOf (settingsOf (now (settings .entry))) (supplyOf millivolts temperature «power_save» waiting)) (now (out .entry)) ⌝ }
+    ensures answers { λ r. ⌜ r ≡ status (answerOf (settingsOf (now (settings .entry))) (supplyOf millivolts temperature «power_save» waiting)) ⌝ }
+    ensures leaves { λ _. ⌜ now (out .exit) ≡ stored voltageWords (answerOf (settingsOf (now (settings .entry))) (supplyOf millivolts temperature «power_save» waiting)) (now (out .entry)) ⌝ }
 {
     let supply = Supply {
         supply_millivolts: millivolts,
@@ -139,8 +140,8 @@ pub extern "C" fn nt7508_find_setting(
     temperature: i32,
     out: &mut [u64; 3],
 ) -> u64
-    ensures { λ r. ⌜ FinderAnswers low high (settingsOf (now (settings .entry))) temperature (now (out .entry)) r (now (out .exit)) ⌝ }
+    ensures { λ r. ⌜ FinderAnswers (settingsOf (now (settings .entry))) temperature low high (now (out .entry)) r (now (out .exit)) ⌝ }
 {
-    let found = voltage::finder::find_setting(low, high, settings_of(settings), temperature);
+    let found = voltage::finder::find_setting(settings_of(settings), temperature, low, high);
     put_found(found, out)
 }

@@ -1,148 +1,154 @@
--- What the checks of a scan come to: number 5 by the clock's own check, and the conditions of number 4 one by one.
+-- What the checks come to: the conditions of numbers 3 and 4 one by one, and what a call knows once its rows pass.
 use Prim.Native.Nat.{ℕ, _≤_, _<_}
-use mathlib.Core.Bool.{Bool, true, false, cond, not, _||_, or-true}
+use mathlib.Core.Bool.{Bool, true, false, cond, _&&_, _||_, or-true}
+use mathlib.Core.List.{List}
 use mathlib.Core.Logic.{_⊎_, inl, inr}
-use mathlib.Core.Path.{_≡_, refl, sym}
+use mathlib.Core.Option.{Option, none, some}
+use mathlib.Core.Path.{_≡_, refl, sym, _∙_}
 use native.Mathlib.Omega.{arith}
 use lib.Dec.{leb, ltb, eqb}
+use lib.ListN.{length}
 use borrow.Author.Tests.{lt-ltb, ltb-true, le-leb, leb-true, eq-eqb, eqb-true}
-use Rattle.clock.specs.declared.edges.Clock.{Clock}
+use Rattle.checks.specs.Checks.{row, firstOf, changed}
+use Rattle.checks.proofs.Chains.{first-passed, row-passed}
+use Rattle.checks.proofs.Tests.{both, either}
 use Rattle.clock.specs.Rate.{isLcd}
-use Rattle.clock.specs.Clock.{validClock, checkClock}
-use Rattle.clock.proofs.Tests.{both, either}
+use Rattle.clock.specs.Check.{validClock, checkClock}
+use Rattle.clock.proofs.Answers.{check-passed, check-valid}
+use Rattle.clock.specs.Time.{inRange}
+use Rattle.scan.specs.Check.{number, refused, linesOk, validSettings, frcCountOk, validFrame, pwmOk, validInversion, validScan, validRunning, checkScan, memoryOk, imageOk, inOrder, checkMoment, checkLent, checkImage}
+use Rattle.scan.specs.State.{rows}
+use Rattle.clock.specs.declared.time.Time.{Time}
+use Rattle.clock.specs.declared.edges.Clock.{Clock}
+use Rattle.scan.specs.declared.settings.Settings.{Settings}
+use Rattle.scan.specs.declared.settings.Frame.{Frame}
 use Rattle.scan.specs.declared.state.Scan.{Scan}
 use Rattle.scan.specs.declared.state.ScanClock.{ScanClock}
-use Rattle.scan.specs.declared.state.Refusal.{Refusal}
-use Rattle.scan.specs.declared.state.Check.{Check}
-use Rattle.scan.specs.declared.settings.Settings.{Settings}
-use Rattle.scan.specs.Settings.{linesOk, validSettings}
-use Rattle.scan.specs.State.{number, refusal, rows, validFrame, frcCountOk, pwmOk, validCounters, validScan, validClockOf, checkScan}
-use Rattle.clock.specs.declared.edges.Check as clocks
-use Rattle.clock.specs.declared.edges.Refusal as clock-refusals
+use Rattle.scan.specs.declared.state.Inversion.{Inversion}
+use Rattle.scan.specs.declared.check.Refusal.{Refusal}
+use Rattle.scan.specs.declared.check.Check.{Check}
+use Rattle.clock.specs.Check as clocks
+use Rattle.clock.specs.declared.check.Check as verdict
+use Rattle.clock.specs.declared.check.Refusal as reasons
 
--- each refusal is the one that its number names
-pub refusal-number : (e : Refusal) → refusal (number e) ≡ e
-refusal-number Refusal.Memory = refl
-refusal-number Refusal.Image = refl
-refusal-number Refusal.Time = refl
-refusal-number Refusal.Settings = refl
-refusal-number Refusal.Scan = refl
-refusal-number Refusal.Clock = refl
+-- what a frame end took, in range
+pub record FrameFits (f : Frame) : Type 0 where
+  pub duty-low : 16 ≤ f .duty
+  pub duty-high : f .duty ≤ 128
+  pub com-below : f .«initial_com» < 128
+  pub line-below : f .«start_line» < 128
+  pub frc-count-ok : frcCountOk (f .«frc_count») ≡ true
 
-pub scan-lcd : (x : Scan) → validScan x ≡ true → isLcd (x .rate) ≡ true
-unfolding validScan
-scan-lcd x v = both (isLcd (x .rate)) _ v .0
+frame-fits : (f : Frame) → validFrame f ≡ true → FrameFits f
+unfolding validFrame
+frame-fits f h =
+    let a = both _ _ h in
+    let b = both _ _ (a .0) in
+    let c = both _ _ (b .0) in
+    let d = both _ _ (c .0) in
+    record {
+      duty-low = leb-true _ _ (d .0);
+      duty-high = leb-true _ _ (d .1);
+      com-below = ltb-true _ _ (c .1);
+      line-below = ltb-true _ _ (b .1);
+      frc-count-ok = a .1;
+    }
 
-module _ (x : Scan) (v : validScan x ≡ true) where
-  pub stopped-passes : x .clock ≡ ScanClock.Stopped → Check.Passed ≡ checkScan x
-  unfolding checkScan validClockOf
-  stopped-passes e = simp (v, e)
+fits-frame : (f : Frame) → FrameFits f → validFrame f ≡ true
+unfolding validFrame
+fits-frame f v = simp (
+  le-leb 16 (f .duty) (v .duty-low),
+  le-leb (f .duty) 128 (v .duty-high),
+  lt-ltb (f .«initial_com») 128 (v .com-below),
+  lt-ltb (f .«start_line») 128 (v .line-below),
+  v .frc-count-ok,
+)
 
-  by-clock : (k : Clock) → x .clock ≡ ScanClock.Running k → (t : Bool) → validClock (x .rate) k ≡ t → checkScan x ≡ cond (not t) (Check.Refused Refusal.Clock) Check.Passed
-  unfolding checkScan validClockOf
-  by-clock k e t h = simp (v, e, h)
+-- a line inversion in range, its count below its lines where it has any
+pub record InversionFits (i : Inversion) : Type 0 where
+  pub lines-ok : linesOk (i .lines) ≡ true
+  pub count-below : (i .lines ≡ 0) ⊎ (i .count < i .lines)
 
-  clock-check : (k : Clock) (t : Bool) → validClock (x .rate) k ≡ t → checkClock (x .rate) k ≡ cond (not t) (clocks.Check.Refused clock-refusals.Refusal.Clock) clocks.Check.Passed
-  unfolding checkClock
-  clock-check k t h = simp (scan-lcd x v, h)
+inversion-fits : (i : Inversion) → validInversion i ≡ true → InversionFits i
+unfolding validInversion
+inversion-fits i h = let a = both _ _ h in record { lines-ok = a .0; count-below = go (either _ _ (a .1)) }
+  where
+    go : (eqb (i .lines) 0 ≡ true) ⊎ (ltb (i .count) (i .lines) ≡ true) → (i .lines ≡ 0) ⊎ (i .count < i .lines)
+    go (inl e) = inl (eqb-true _ _ e)
+    go (inr e) = inr (ltb-true _ _ e)
 
-  pub running-passes : (k : Clock) → x .clock ≡ ScanClock.Running k → checkClock (x .rate) k ≡ clocks.Check.Passed → Check.Passed ≡ checkScan x
-  running-passes k e p = go (validClock (x .rate) k) refl
-    where
-      go : (t : Bool) → validClock (x .rate) k ≡ t → Check.Passed ≡ checkScan x
-      go true h = sym (by-clock k e true h)
-      go false h = let q = clock-check k false h in let z : _≡_ {A = ℕ} 0 1 = cc in absurd (omega arith)
-
-  pub running-refused : (k : Clock) (r : clock-refusals.Refusal) → x .clock ≡ ScanClock.Running k → checkClock (x .rate) k ≡ clocks.Check.Refused r → Check.Refused Refusal.Clock ≡ checkScan x
-  running-refused k r e p = go (validClock (x .rate) k) refl
-    where
-      go : (t : Bool) → validClock (x .rate) k ≡ t → Check.Refused Refusal.Clock ≡ checkScan x
-      go true h = let q = clock-check k true h in let z : _≡_ {A = ℕ} 0 1 = cc in absurd (omega arith)
-      go false h = sym (by-clock k e false h)
+fits-inversion : (i : Inversion) → InversionFits i → validInversion i ≡ true
+unfolding validInversion
+fits-inversion i v = simp (v .lines-ok) (go (v .count-below))
+  where
+    go : (i .lines ≡ 0) ⊎ (i .count < i .lines) → eqb (i .lines) 0 || ltb (i .count) (i .lines) ≡ true
+    go (inl e) = simp (eq-eqb (i .lines) 0 e)
+    go (inr h) = simp (lt-ltb (i .count) (i .lines) h, or-true)
 
 -- a scan that passes numbers 4 and 5, condition by condition
 pub record Valid (x : Scan) : Type 0 where
-  pub lcd : isLcd (x .rate) ≡ true
-  pub duty-low : 16 ≤ x .duty
-  pub duty-high : x .duty ≤ 128
-  pub com-below : x .«initial_com» < 128
-  pub line-below : x .«start_line» < 128
-  pub frc-count-ok : frcCountOk (x .«frc_count») ≡ true
+  pub lcd : isLcd (x .ticking .rate) ≡ true
+  pub frame : FrameFits (x .frame)
   pub pwm-ok : pwmOk (x .pwm) ≡ true
   pub step-below : x .step < x .pwm
-  pub frc-below : x .frc < x .«frc_count»
+  pub frc-below : x .frc < x .frame .«frc_count»
   pub row-below : x .row < rows x
-  pub lines-ok : linesOk (x .«inversion_lines») ≡ true
-  pub count-below : (x .«inversion_lines» ≡ 0) ⊎ (x .«inversion_count» < x .«inversion_lines»)
-  pub clock-ok : validClockOf (x .rate) (x .clock) ≡ true
+  pub inversion : InversionFits (x .inversion)
+  pub clock-ok : validRunning (x .ticking .clock) (x .ticking .rate) ≡ true
 
-count-either : (lines count : ℕ) → eqb lines 0 || ltb count lines ≡ true → (lines ≡ 0) ⊎ (count < lines)
-count-either lines count h = go (either (eqb lines 0) (ltb count lines) h)
-  where
-    go : (eqb lines 0 ≡ true) ⊎ (ltb count lines ≡ true) → (lines ≡ 0) ⊎ (count < lines)
-    go (inl e) = inl (eqb-true lines 0 e)
-    go (inr e) = inr (ltb-true count lines e)
-
-either-count : (lines count : ℕ) → (lines ≡ 0) ⊎ (count < lines) → eqb lines 0 || ltb count lines ≡ true
-either-count lines count (inl e) = simp (eq-eqb lines 0 e)
-either-count lines count (inr h) = simp (lt-ltb count lines h, or-true)
-
-valid-parts : (x : Scan) → validScan x ≡ true → validClockOf (x .rate) (x .clock) ≡ true → Valid x
-unfolding validScan validFrame validCounters
-valid-parts x v k =
-    let a = both (isLcd (x .rate)) _ v in
-    let f = both (validFrame x) _ (a .1) in
-    let g = both (pwmOk (x .pwm)) _ (f .1) in
-    let f1 = both (leb 16 (x .duty)) _ (f .0) in
-    let f2 = both (leb (x .duty) 128) _ (f1 .1) in
-    let f3 = both (ltb (x .«initial_com») 128) _ (f2 .1) in
-    let f4 = both (ltb (x .«start_line») 128) _ (f3 .1) in
-    let g1 = both (ltb (x .step) (x .pwm)) _ (g .1) in
-    let g2 = both (ltb (x .frc) (x .«frc_count»)) _ (g1 .1) in
-    let g3 = both (ltb (x .row) (rows x)) _ (g2 .1) in
-    let g4 = both (linesOk (x .«inversion_lines»)) _ (g3 .1) in
+pub valid-scan : (x : Scan) → checkScan x ≡ none → Valid x
+unfolding checkScan validScan
+valid-scan x h =
+    let p = first-passed _ _ h in
+    let a = both _ _ (row-passed 4 _ (p .0)) in
+    let b = both _ _ (a .0) in
+    let c = both _ _ (b .0) in
+    let d = both _ _ (c .0) in
+    let e = both _ _ (d .0) in
+    let f = both _ _ (e .0) in
     record {
-      lcd = a .0;
-      duty-low = leb-true _ _ (f1 .0);
-      duty-high = leb-true _ _ (f2 .0);
-      com-below = ltb-true _ _ (f3 .0);
-      line-below = ltb-true _ _ (f4 .0);
-      frc-count-ok = f4 .1;
-      pwm-ok = g .0;
-      step-below = ltb-true _ _ (g1 .0);
-      frc-below = ltb-true _ _ (g2 .0);
-      row-below = ltb-true _ _ (g3 .0);
-      lines-ok = g4 .0;
-      count-below = count-either _ _ (g4 .1);
-      clock-ok = k;
+      lcd = f .0;
+      frame = frame-fits (x .frame) (f .1);
+      pwm-ok = e .1;
+      step-below = ltb-true _ _ (d .1);
+      frc-below = ltb-true _ _ (c .1);
+      row-below = ltb-true _ _ (b .1);
+      inversion = inversion-fits (x .inversion) (a .1);
+      clock-ok = row-passed 5 _ (p .1);
     }
 
-pub valid-scan : (x : Scan) → checkScan x ≡ Check.Passed → Valid x
-unfolding checkScan
-valid-scan x h = go (validScan x) refl (validClockOf (x .rate) (x .clock)) refl h
-  where
-    go : (a : Bool) → validScan x ≡ a → (b : Bool) → validClockOf (x .rate) (x .clock) ≡ b → cond (not a) (Check.Refused Refusal.Scan) (cond (not b) (Check.Refused Refusal.Clock) Check.Passed) ≡ Check.Passed → Valid x
-    go true a true b h = valid-parts x a b
-    go true a false b h = let z : _≡_ {A = ℕ} 0 1 = cc in absurd (omega arith)
-    go false a b' b h = let z : _≡_ {A = ℕ} 0 1 = cc in absurd (omega arith)
-
-pub valid-check : (x : Scan) → Valid x → checkScan x ≡ Check.Passed
-unfolding checkScan validScan validFrame validCounters
+pub valid-check : (x : Scan) → Valid x → checkScan x ≡ none
+unfolding checkScan validScan
 valid-check x v = simp (
   v .lcd,
-  le-leb 16 (x .duty) (v .duty-low),
-  le-leb (x .duty) 128 (v .duty-high),
-  lt-ltb (x .«initial_com») 128 (v .com-below),
-  lt-ltb (x .«start_line») 128 (v .line-below),
-  v .frc-count-ok,
+  fits-frame (x .frame) (v .frame),
   v .pwm-ok,
   lt-ltb (x .step) (x .pwm) (v .step-below),
-  lt-ltb (x .frc) (x .«frc_count») (v .frc-below),
+  lt-ltb (x .frc) (x .frame .«frc_count») (v .frc-below),
   lt-ltb (x .row) (rows x) (v .row-below),
-  v .lines-ok,
-  either-count (x .«inversion_lines») (x .«inversion_count») (v .count-below),
+  fits-inversion (x .inversion) (v .inversion),
   v .clock-ok,
 )
+
+-- number 5 by the clock's own check
+module _ (x : Scan) (c : Clock) (k : verdict.Check) (v : validScan x ≡ true) (e : x .ticking .clock ≡ ScanClock.Running c) (h : clocks.refused k ≡ checkClock c (x .ticking .rate)) where
+  scan-lcd : isLcd (x .ticking .rate) ≡ true
+  unfolding validScan
+  scan-lcd = both _ _ (both _ _ (both _ _ (both _ _ (both _ _ (both _ _ v .0) .0) .0) .0) .0) .0
+
+  by-clock : (t : Bool) → validClock c (x .ticking .rate) ≡ t → checkScan x ≡ cond t none (some 5)
+  unfolding checkScan validRunning
+  by-clock t q = simp (v, e, q)
+
+  pub passed-by-clock : k ≡ verdict.Check.Passed → checkScan x ≡ none
+  passed-by-clock p = by-clock true (check-valid c (x .ticking .rate) k h p .1)
+
+  pub refused-by-clock : {why : reasons.Refusal} → k ≡ verdict.Check.Refused why → checkScan x ≡ some 5
+  refused-by-clock p = go (validClock c (x .ticking .rate)) refl
+    where
+      go : (t : Bool) → validClock c (x .ticking .rate) ≡ t → checkScan x ≡ some 5
+      go false q = by-clock false q
+      go true q = let r : k ≡ verdict.Check.Passed = check-passed c (x .ticking .rate) k h scan-lcd q in let z : _≡_ {A = ℕ} 0 1 = cc in absurd (omega arith)
 
 -- settings that pass number 3, condition by condition
 pub record ValidSettings (s : Settings) : Type 0 where
@@ -158,20 +164,91 @@ pub record ValidSettings (s : Settings) : Type 0 where
 pub valid-settings : (s : Settings) → validSettings s ≡ true → ValidSettings s
 unfolding validSettings
 valid-settings s h =
-    let a = both (ltb (s .«start_line») 128) _ h in
-    let b = both (ltb (s .«initial_com») 128) _ (a .1) in
-    let c = both (leb 16 (s .duty)) _ (b .1) in
-    let d = both (leb (s .duty) 128) _ (c .1) in
-    let e = both (linesOk (s .«inversion_lines»)) _ (d .1) in
-    let f = both (leb (s .«gray_mode») 7) _ (e .1) in
-    let g = both (leb (s .«oscillator_control») 3) _ (f .1) in
+    let a = both _ _ h in
+    let b = both _ _ (a .0) in
+    let c = both _ _ (b .0) in
+    let d = both _ _ (c .0) in
+    let e = both _ _ (d .0) in
+    let f = both _ _ (e .0) in
+    let g = both _ _ (f .0) in
     record {
-      line-below = ltb-true _ _ (a .0);
-      com-below = ltb-true _ _ (b .0);
-      duty-low = leb-true _ _ (c .0);
-      duty-high = leb-true _ _ (d .0);
-      lines-ok = e .0;
-      gray-high = leb-true _ _ (f .0);
-      control-high = leb-true _ _ (g .0);
-      frequency-high = leb-true _ _ (g .1);
+      line-below = ltb-true _ _ (g .0);
+      com-below = ltb-true _ _ (g .1);
+      duty-low = leb-true _ _ (f .1);
+      duty-high = leb-true _ _ (e .1);
+      lines-ok = d .1;
+      gray-high = leb-true _ _ (c .1);
+      control-high = leb-true _ _ (b .1);
+      frequency-high = leb-true _ _ (a .1);
     }
+
+-- every row of a chain that passes
+in-order-passed : (memory image time settings scan : Option ℕ) → inOrder memory image time settings scan ≡ none → (memory ≡ none) × ((image ≡ none) × ((time ≡ none) × ((settings ≡ none) × (scan ≡ none))))
+unfolding inOrder
+in-order-passed memory image time settings scan h =
+    let a = first-passed memory _ h in
+    let b = first-passed image _ (a .1) in
+    let c = first-passed time _ (b .1) in
+    (a .0, (b .0, (c .0, first-passed settings scan (c .1))))
+
+-- what a call that takes a moment knows once its checks pass
+pub record Timed (x : Scan) (ok : Bool) (now : Time) : Type 0 where
+  pub in-range : inRange now ≡ true
+  pub settings-ok : ok ≡ true
+  pub scan-passed : checkScan x ≡ none
+
+pub timed : (x : Scan) (ok : Bool) (now : Time) → checkMoment x ok now ≡ none → Timed x ok now
+unfolding checkMoment
+timed x ok now h =
+    let p = in-order-passed _ _ _ _ _ h in
+    record { in-range = row-passed 1 _ (p .1 .1 .0); settings-ok = row-passed 3 _ (p .1 .1 .1 .0); scan-passed = p .1 .1 .1 .1 }
+
+-- what lent memory is, once it passes
+pub record Lent (ram icons : List ℕ) : Type 0 where
+  pub ram-length : length ram ≡ 4096
+  pub icons-length : length icons ≡ 256
+
+lent : (ram icons : List ℕ) → memoryOk ram icons ≡ true → Lent ram icons
+unfolding memoryOk
+lent ram icons h = let l = both _ _ h in record { ram-length = eqb-true _ _ (l .0); icons-length = eqb-true _ _ (l .1) }
+
+-- what a call that takes a moment and lent memory knows once its checks pass
+pub record Called (x : Scan) (ok : Bool) (now : Time) (ram icons : List ℕ) : Type 0 where
+  pub memory : Lent ram icons
+  pub in-range : inRange now ≡ true
+  pub settings-ok : ok ≡ true
+  pub scan-passed : checkScan x ≡ none
+
+pub called : (x : Scan) (ok : Bool) (now : Time) (ram icons : List ℕ) → checkLent x ok now ram icons ≡ none → Called x ok now ram icons
+unfolding checkLent
+called x ok now ram icons h =
+    let p = in-order-passed _ _ _ _ _ h in
+    record {
+      memory = lent ram icons (row-passed 2 _ (p .0));
+      in-range = row-passed 1 _ (p .1 .1 .0);
+      settings-ok = row-passed 3 _ (p .1 .1 .1 .0);
+      scan-passed = p .1 .1 .1 .1;
+    }
+
+-- what a call that paints an image knows once its checks pass
+pub record Painted (s : Settings) (ram icons : List ℕ) (bytes : ℕ) : Type 0 where
+  pub memory : Lent ram icons
+  pub image-length : bytes ≡ 6144
+  pub settings-ok : validSettings s ≡ true
+
+pub painted-checks : (s : Settings) (ram icons : List ℕ) (bytes : ℕ) → checkImage s ram icons bytes ≡ none → Painted s ram icons bytes
+unfolding checkImage imageOk
+painted-checks s ram icons bytes h =
+    let p = in-order-passed _ _ _ _ _ h in
+    record { memory = lent ram icons (row-passed 2 _ (p .0)); image-length = eqb-true _ _ (row-passed 8 _ (p .1 .0)); settings-ok = row-passed 3 _ (p .1 .1 .1 .0) }
+
+-- what a check that was opened by `let Check::Passed = check else` says of its definition, where it passed and where not
+module _ {check : Check} {c : Option ℕ} (e : refused check ≡ c) where
+  pub passes : check ≡ Check.Passed → c ≡ none
+  passes h = sym e ∙ rw h
+
+  pub passed-answer : {A : Type 0} (new given : A) → check ≡ Check.Passed → (none, new) ≡ changed c new given
+  passed-answer new given h = rw (passes h)
+
+  pub refused-answer : {A : Type 0} {why : Refusal} (new given : A) → check ≡ Check.Refused why → (refused check, given) ≡ changed c new given
+  refused-answer new given h = rw (← e, h)

@@ -10,21 +10,24 @@ use lib.Dec.{leb, eqb}
 use borrow.Author.Tests.{eqb-true, ne-eqb, leb-true, leb-false}
 use Rattle.clock.specs.declared.time.Time.{Time}
 use Rattle.clock.specs.declared.rate.Rate.{Rate}
-use Rattle.clock.specs.Time.{inRange}
+use Rattle.checks.proofs.Tests.{either}
+use Rattle.clock.specs.Edges.{movedBy, started}
 use Rattle.clock.specs.Rate.{isLcd, sameRate}
-use Rattle.clock.specs.Clock.{movedBy, started}
-use Rattle.clock.proofs.Tests.{either}
-use Rattle.clock.proofs.Rates.{lcd-bounds, lcd-given, same-rate}
-use Rattle.clock.proofs.Positions.{valid, valid-test}
+use Rattle.clock.specs.Time.{inRange}
+use Rattle.clock.proofs.Checks.{valid, valid-test}
 use Rattle.clock.proofs.Laws.{earlier-in-range, moved-valid, started-valid}
-use Rattle.scan.specs.declared.settings.Settings.{Settings}
-use Rattle.scan.specs.declared.state.Scan.{Scan}
-use Rattle.scan.specs.declared.state.ScanClock.{ScanClock}
-use Rattle.scan.specs.Settings.{pwmWidths, pwmOf, frcCountOf, rowsOf, rateOf}
-use Rattle.scan.specs.State.{rows, frcCountOk, pwmOk, validClockOf}
-use Rattle.scan.specs.Quantum.{rowEnds, frameEnds, linesEnd, counted, rowsAfter, ticked, quantum}
+use Rattle.clock.proofs.Rates.{lcd-bounds, lcd-given, same-rate}
+use Rattle.scan.specs.Check.{linesOk, frcCountOk, pwmOk, validRunning}
 use Rattle.scan.specs.Count.{dueAt, due}
-use Rattle.scan.proofs.Checks.{Valid, ValidSettings}
+use Rattle.scan.specs.Quantum.{rowEnds, frameEnds, linesEnd, countOn, inversionAfter, frameAfter, ticked, tickedTo, quantum}
+use Rattle.scan.specs.Settings.{pwmWidths, pwmOf, frcCountOf, frameOf, rowsOf, rowsIn, rateOf}
+use Rattle.scan.specs.State.{rows}
+use Rattle.scan.proofs.Checks.{Valid, FrameFits, InversionFits, ValidSettings}
+use Rattle.scan.specs.declared.settings.Settings.{Settings}
+use Rattle.scan.specs.declared.settings.Frame.{Frame}
+use Rattle.scan.specs.declared.state.Scan.{Scan}
+use Rattle.scan.specs.declared.state.Inversion.{Inversion}
+use Rattle.scan.specs.declared.state.ScanClock.{ScanClock}
 
 -- what the settings give is in range
 pub pwm-of-ok : (g : ℕ) → pwmOk (pwmOf g) ≡ true
@@ -66,15 +69,15 @@ frc-count-le n h = go (either (eqb n 3) (eqb n 4) h)
 
 pub pwm-small : (p : ℕ) → pwmOk p ≡ true → p ≤ 15
 unfolding pwmOk
-pwm-small p h = go (either (eqb p 9) _ h)
+pwm-small p h = go (either _ _ h)
   where
-    rest : (eqb p 12 ≡ true) ⊎ (eqb p 15 ≡ true) → p ≤ 15
-    rest (inl e) = omega (arith, eqb-true p 12 e)
-    rest (inr e) = omega (arith, eqb-true p 15 e)
+    rest : (eqb p 9 ≡ true) ⊎ (eqb p 12 ≡ true) → p ≤ 15
+    rest (inl e) = omega (arith, eqb-true p 9 e)
+    rest (inr e) = omega (arith, eqb-true p 12 e)
 
-    go : (eqb p 9 ≡ true) ⊎ (eqb p 12 || eqb p 15 ≡ true) → p ≤ 15
-    go (inl e) = omega (arith, eqb-true p 9 e)
-    go (inr e) = rest (either (eqb p 12) (eqb p 15) e)
+    go : (eqb p 9 || eqb p 12 ≡ true) ⊎ (eqb p 15 ≡ true) → p ≤ 15
+    go (inl e) = rest (either _ _ e)
+    go (inr e) = omega (arith, eqb-true p 15 e)
 
 pub frc-count-small : (g : ℕ) → frcCountOf g ≤ 256
 unfolding frcCountOf
@@ -84,13 +87,26 @@ frc-count-small g = go (eqb (g / 4 % 2) 0)
     go true = omega arith
     go false = omega arith
 
-pub rows-low : (d : ℕ) (i : Bool) → d ≤ rowsOf d i
-rows-low d true = omega arith
-rows-low d false = omega arith
+rows-between : (d : ℕ) (i : Bool) → (d ≤ rowsOf d i) × (rowsOf d i ≤ d + 1)
+rows-between d true = (omega arith, omega arith)
+rows-between d false = (omega arith, omega arith)
 
-pub rows-high : (d : ℕ) (i : Bool) → rowsOf d i ≤ d + 1
-rows-high d true = omega arith
-rows-high d false = omega arith
+pub rows-low : (f : Frame) → f .duty ≤ rowsIn f
+unfolding rowsIn
+rows-low f = rows-between (f .duty) (f .icon) .0
+
+pub rows-high : (f : Frame) → rowsIn f ≤ f .duty + 1
+unfolding rowsIn
+rows-high f = rows-between (f .duty) (f .icon) .1
+
+-- what the settings give a frame end
+pub frame-of-fits : (s : Settings) → ValidSettings s → FrameFits (frameOf s)
+unfolding frameOf
+frame-of-fits s vs = record { duty-low = vs .duty-low; duty-high = vs .duty-high; com-below = vs .com-below; line-below = vs .line-below; frc-count-ok = frc-count-of-ok (s .«gray_mode») }
+
+pub frc-count-taken : (s : Settings) → frameOf s .«frc_count» ≡ frcCountOf (s .«gray_mode»)
+unfolding frameOf
+frc-count-taken s = refl
 
 -- the count after a row's end that takes the lines `taken`
 lines-count : (lines taken count : ℕ) → (lines ≡ 0) ⊎ (count < lines) → (taken ≡ 0) ⊎ (cond (eqb lines taken) (cond (eqb lines 0) count (cond (leb lines (count + 1)) 0 (count + 1))) 0 < taken)
@@ -107,85 +123,84 @@ lines-count lines (suc k) count v = inr (go (eqb lines (suc k)) refl)
         let e : lines ≡ suc k = eqb-true _ _ h in
         rw (ne-eqb lines 0 (omega arith)) (inner e (leb lines (count + 1)) refl)
 
+inversion-after-fits : (i : Inversion) (lines : ℕ) (row-ended frame-ended : Bool) → InversionFits i → linesOk lines ≡ true → InversionFits (inversionAfter i lines row-ended frame-ended)
+unfolding inversionAfter countOn linesEnd
+inversion-after-fits i lines true ended v l = record { lines-ok = l; count-below = lines-count (i .lines) lines (i .count) (v .count-below) }
+inversion-after-fits i lines false ended v l = record { lines-ok = v .lines-ok; count-below = v .count-below }
+
 -- the rate of rows in range
-pub rate-lcd : (s : Settings) → ValidSettings s → (d : ℕ) (i : Bool) → 16 ≤ d → d ≤ 128 → isLcd (rateOf s (rowsOf d i)) ≡ true
+pub rate-lcd : (s : Settings) → ValidSettings s → (f : Frame) → FrameFits f → isLcd (rateOf s (rowsIn f)) ≡ true
 unfolding rateOf
-rate-lcd s vs d i lo hi =
-    lcd-given (s .«oscillator_control») (s .«oscillator_frequency») (rowsOf d i) (omega (arith, vs .frequency-high)) (omega (arith, rows-low d i)) (omega (arith, rows-high d i))
+rate-lcd s vs f v =
+    lcd-given (s .«oscillator_control») (s .«oscillator_frequency») (rowsIn f) (omega (arith, vs .frequency-high)) (omega (arith, rows-low f, v .duty-low)) (omega (arith, rows-high f, v .duty-high))
 
 -- a clock ticked to a moment in range is valid at its rate
-pub ticked-valid : (r new : Rate) (k : ScanClock) (now : Time) → inRange now ≡ true → isLcd r ≡ true → isLcd new ≡ true → validClockOf r k ≡ true → dueAt r k now ≡ true → validClockOf new (ticked 1 r new k) ≡ true
-unfolding validClockOf dueAt ticked
-ticked-valid r new ScanClock.Stopped now i l m v d = refl
-ticked-valid r new (ScanClock.Running c) now i l m v d = go (sameRate r new) refl
+ticked-valid : (k : ScanClock) (r new : Rate) (now : Time) → inRange now ≡ true → isLcd r ≡ true → isLcd new ≡ true → validRunning k r ≡ true → dueAt k r now ≡ true → validRunning (ticked k r new) new ≡ true
+unfolding validRunning dueAt ticked
+ticked-valid ScanClock.Stopped r new now i l m v d = refl
+ticked-valid (ScanClock.Running c) r new now i l m v d = go (sameRate r new) refl
   where
-    range : inRange (movedBy r c 1 .at) ≡ true
-    range = earlier-in-range (movedBy r c 1 .at) now (leb-true _ _ d) i
+    range : inRange (movedBy c r 1 .at) ≡ true
+    range = earlier-in-range (movedBy c r 1 .at) now (leb-true _ _ d) i
 
-    go : (t : Bool) → sameRate r new ≡ t → validClockOf new (cond t (ScanClock.Running (movedBy r c 1)) (ScanClock.Running (started (movedBy r c 1 .at) new))) ≡ true
-    go true h = rw (← same-rate r new h) (valid-test r (movedBy r c 1) (moved-valid r c (omega (arith, lcd-bounds r l .low)) 1 (valid r c v) range))
-    go false h = valid-test new (started (movedBy r c 1 .at) new) (started-valid (movedBy r c 1 .at) new m range)
+    go : (t : Bool) → sameRate r new ≡ t → validRunning (cond t (ScanClock.Running (movedBy c r 1)) (ScanClock.Running (started (movedBy c r 1 .at) new))) new ≡ true
+    go true h = rw (← same-rate r new h) (valid-test (movedBy c r 1) r (moved-valid c r (omega (arith, lcd-bounds r l .low)) 1 (valid c r v) range))
+    go false h = valid-test (started (movedBy c r 1 .at) new) new (started-valid (movedBy c r 1 .at) new m range)
 
 module _ (s : Settings) (vs : ValidSettings s) (now : Time) (i : inRange now ≡ true) where
-  pub quantum-valid : (x : Scan) → Valid x → due x now ≡ true → Valid (quantum s x)
-  unfolding quantum counted linesEnd rowsAfter frameEnds rowEnds due
+  pub quantum-valid : (x : Scan) → Valid x → due x now ≡ true → Valid (quantum x s)
+  unfolding quantum tickedTo frameAfter frameEnds rowEnds due
   quantum-valid x v d = go (leb (x .pwm) (x .step + 1)) refl (leb (rows x) (x .row + 1)) refl
     where
       kept-lcd : isLcd (rateOf s (rows x)) ≡ true
-      kept-lcd = rate-lcd s vs (x .duty) (x .icon) (v .duty-low) (v .duty-high)
+      kept-lcd = rate-lcd s vs (x .frame) (v .frame)
 
-      new-lcd : isLcd (rateOf s (rowsOf (s .duty) (s .«icon_enabled»))) ≡ true
-      new-lcd = rate-lcd s vs (s .duty) (s .«icon_enabled») (vs .duty-low) (vs .duty-high)
+      new-lcd : isLcd (rateOf s (rowsIn (frameOf s))) ≡ true
+      new-lcd = rate-lcd s vs (frameOf s) (frame-of-fits s vs)
 
-      ticks : (new : Rate) → isLcd new ≡ true → validClockOf new (ticked 1 (x .rate) new (x .clock)) ≡ true
-      ticks new l = ticked-valid (x .rate) new (x .clock) now i (v .lcd) l (v .clock-ok) d
+      ticks : (new : Rate) → isLcd new ≡ true → validRunning (ticked (x .ticking .clock) (x .ticking .rate) new) new ≡ true
+      ticks new l = ticked-valid (x .ticking .clock) (x .ticking .rate) new now i (v .lcd) l (v .clock-ok) d
 
       pos : 0 < pwmOf (s .«gray_mode»)
       pos = pwm-pos (pwmOf (s .«gray_mode»)) (pwm-of-ok (s .«gray_mode»))
 
-      go : (a : Bool) → leb (x .pwm) (x .step + 1) ≡ a → (b : Bool) → leb (rows x) (x .row + 1) ≡ b → Valid (quantum s x)
+      inverts : (row-ended frame-ended : Bool) → InversionFits (inversionAfter (x .inversion) (s .«inversion_lines») row-ended frame-ended)
+      inverts row-ended frame-ended = inversion-after-fits (x .inversion) (s .«inversion_lines») row-ended frame-ended (v .inversion) (vs .lines-ok)
+
+      phase : 0 < frcCountOf (s .«gray_mode»)
+      phase = frc-count-pos (frcCountOf (s .«gray_mode»)) (frc-count-of-ok (s .«gray_mode»))
+
+      first-row : 0 < rowsIn (frameOf s)
+      first-row = let f = frame-of-fits s vs in omega (arith, rows-low (frameOf s), f .duty-low)
+
+      go : (a : Bool) → leb (x .pwm) (x .step + 1) ≡ a → (b : Bool) → leb (rows x) (x .row + 1) ≡ b → Valid (quantum x s)
       go false h b k = simp h (record {
         lcd = kept-lcd;
-        duty-low = v .duty-low;
-        duty-high = v .duty-high;
-        com-below = v .com-below;
-        line-below = v .line-below;
-        frc-count-ok = v .frc-count-ok;
+        frame = v .frame;
         pwm-ok = v .pwm-ok;
         step-below = leb-false (x .pwm) (x .step + 1) h;
         frc-below = v .frc-below;
         row-below = v .row-below;
-        lines-ok = v .lines-ok;
-        count-below = v .count-below;
+        inversion = inverts false false;
         clock-ok = ticks (rateOf s (rows x)) kept-lcd;
       })
       go true h false k = simp (h, k) (record {
         lcd = kept-lcd;
-        duty-low = v .duty-low;
-        duty-high = v .duty-high;
-        com-below = v .com-below;
-        line-below = v .line-below;
-        frc-count-ok = v .frc-count-ok;
+        frame = v .frame;
         pwm-ok = pwm-of-ok (s .«gray_mode»);
         step-below = pos;
         frc-below = v .frc-below;
         row-below = leb-false (rows x) (x .row + 1) k;
-        lines-ok = vs .lines-ok;
-        count-below = lines-count (x .«inversion_lines») (s .«inversion_lines») (x .«inversion_count») (v .count-below);
+        inversion = inverts true false;
         clock-ok = ticks (rateOf s (rows x)) kept-lcd;
       })
       go true h true k = simp (h, k) (record {
         lcd = new-lcd;
-        duty-low = vs .duty-low;
-        duty-high = vs .duty-high;
-        com-below = vs .com-below;
-        line-below = vs .line-below;
-        frc-count-ok = frc-count-of-ok (s .«gray_mode»);
+        frame = frame-of-fits s vs;
         pwm-ok = pwm-of-ok (s .«gray_mode»);
         step-below = pos;
-        frc-below = mod-lt (x .frc + 1) (frc-count-pos (frcCountOf (s .«gray_mode»)) (frc-count-of-ok (s .«gray_mode»)));
-        row-below = omega (arith, vs .duty-low, rows-low (s .duty) (s .«icon_enabled»));
-        lines-ok = vs .lines-ok;
-        count-below = lines-count (x .«inversion_lines») (s .«inversion_lines») (x .«inversion_count») (v .count-below);
-        clock-ok = ticks (rateOf s (rowsOf (s .duty) (s .«icon_enabled»))) new-lcd;
+        frc-below = rw (frc-count-taken s) (mod-lt (x .frc + 1) phase);
+        row-below = first-row;
+        inversion = inverts true true;
+        clock-ok = ticks (rateOf s (rowsIn (frameOf s))) new-lcd;
       })

@@ -1,14 +1,15 @@
+-- What the crates above may use: the conditions of the checks, what the calls answer, counting, latch, drive and image.
+mod Numbers
+mod Quanta
+mod Pieces
+mod Shades
+mod Rows
 pub mod Checks
-pub mod Numbers
-pub mod Quanta
 pub mod Kept
 pub mod Counting
-pub mod Pieces
 pub mod Stages
-pub mod Clocks
-pub mod Shades
 pub mod Latches
-pub mod Rows
 pub mod Images
 pub mod Runs
 pub mod Drives
+pub mod Answers

@@ -148,5 +148,5 @@ row-left rows row pwm h = omega (arith, mul-le-mul {n₁ = 1} {m₁ = pwm} {n₂
 pub ended-fits : (r a b : ℕ) → r < 256 → a < 2 ^ 51 → r + a / b < 2 ^ 64
 ended-fits r a b h k = omega (arith, div-le-self a b)
 
-pub frames-fit : (q r a b d : ℕ) → q < 256 → r < 256 → a < 2 ^ 51 → q + (r + a / b) / d < 2 ^ 64
-frames-fit q r a b d h k l = omega (arith, div-le-self a b, div-le-self (r + a / b) d)
+pub frames-small : (r a b d : ℕ) → r < 256 → a < 2 ^ 51 → (r + a / b) / d < 2 ^ 52
+frames-small r a b d h k = omega (arith, div-le-self a b, div-le-self (r + a / b) d)

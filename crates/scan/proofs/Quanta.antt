@@ -1,4 +1,4 @@
--- n quanta at once: what src/count.rt computes by division and remainder equals n quanta one after another, while no
+-- n quanta at once: what src/closed.rt computes by division and remainder equals n quanta one after another, while no
 -- setting changes before the last of them.
 use Prim.Native.Nat.{ℕ, zero, suc, _+_, _/_, _%_, _<_, _≤_}
 use mathlib.Core.Bool.{Bool, true, false, cond}
@@ -10,202 +10,195 @@ use native.Mathlib.Numerals.{add-one}
 use lib.Dec.{leb, eqb}
 use borrow.Author.Tests.{le-leb, lt-leb, leb-true, leb-false}
 use Rattle.clock.specs.declared.rate.Rate.{Rate}
-use Rattle.clock.proofs.Rates.{same-refl}
 use Rattle.clock.proofs.Laws.{moved-moved}
-use Rattle.scan.specs.declared.settings.Settings.{Settings}
-use Rattle.scan.specs.declared.state.Scan.{Scan}
-use Rattle.scan.specs.declared.state.ScanClock.{ScanClock}
-use Rattle.scan.specs.Settings.{pwmOf, frcCountOf, rowsOf, rateOf}
+use Rattle.clock.proofs.Rates.{same-refl}
+use Rattle.scan.specs.Closed.{quanta, tickedBy, flipped, flipsIn, countIn, inversionIn, endedRows, endedFrames, after, closed}
+use Rattle.scan.specs.Quantum.{rowEnds, frameEnds, linesEnd, flips, countOn, inversionAfter, frameAfter, ticked, tickedTo, quantum}
+use Rattle.scan.specs.Settings.{pwmOf, frcCountOf, frameOf, rowsIn, rateOf}
 use Rattle.scan.specs.State.{rows}
-use Rattle.scan.specs.Quantum.{rowEnds, frameEnds, linesEnd, flips, counted, rowsAfter, ticked, quantum, quanta}
-use Rattle.scan.specs.Closed.{flipped, flipsIn, countIn, endedRows, endedFrames, after, closed}
 use Rattle.scan.proofs.Checks.{Valid}
 use Rattle.scan.proofs.Numbers.{div-in, mod-in, div-out, mod-out, cond-same, keep, not-zero, count-held, count-next, flips-next, frc-held, frc-next, flips-none}
+use Rattle.scan.specs.declared.settings.Settings.{Settings}
+use Rattle.scan.specs.declared.settings.Frame.{Frame}
+use Rattle.scan.specs.declared.state.Scan.{Scan}
+use Rattle.scan.specs.declared.state.ScanClock.{ScanClock}
+use Rattle.scan.specs.declared.state.Ticking.{Ticking}
+use Rattle.scan.specs.declared.state.Inversion.{Inversion}
 
--- what a row end takes, and what a frame end takes, is in force
-pub record RowSettled (s : Settings) (x : Scan) : Type 0 where
+-- what a row end takes is in force
+pub record RowSettled (x : Scan) (s : Settings) : Type 0 where
   pub pwm : pwmOf (s .«gray_mode») ≡ x .pwm
-  pub lines : s .«inversion_lines» ≡ x .«inversion_lines»
-
-pub record FrameSettled (s : Settings) (x : Scan) : Type 0 where
-  pub duty : s .duty ≡ x .duty
-  pub icon : s .«icon_enabled» ≡ x .icon
-  pub initial : s .«initial_com» ≡ x .«initial_com»
-  pub reverse : s .«common_reverse» ≡ x .«common_reverse»
-  pub line : s .«start_line» ≡ x .«start_line»
-  pub frcs : frcCountOf (s .«gray_mode») ≡ x .«frc_count»
+  pub lines : s .«inversion_lines» ≡ x .inversion .lines
 
 -- the rate of the rows after f ended frames
-unfoldable pub rateAfter : Settings → Scan → ℕ → Rate
-rateAfter s x f = rateOf s (rowsOf (cond (eqb f 0) (x .duty) (s .duty)) (cond (eqb f 0) (x .icon) (s .«icon_enabled»)))
+unfoldable pub rateAfter : Scan → Settings → ℕ → Rate
+rateAfter x s f = rateOf s (rowsIn (cond (eqb f 0) (x .frame) (frameOf s)))
+
+-- the inversion with its lines in force
+heldInversion : Inversion → (e f : ℕ) → Inversion
+heldInversion i e f = record {
+  lines = i .lines;
+  count = countIn (i .lines) (i .count) e;
+  inverted = flipped (i .inverted) (flipsIn (i .lines) (i .count) e f);
+}
 
 -- `after` while all that the scan had is in force
-held : Scan → ScanClock → Rate → Bool → ℕ → ℕ → ℕ → ℕ → Scan
-held x k l b t r e f = record {
-  clock = k;
-  rate = l;
-  duty = x .duty;
-  icon = x .icon;
-  «initial_com» = x .«initial_com»;
-  «common_reverse» = x .«common_reverse»;
-  «start_line» = x .«start_line»;
+held : Scan → Ticking → Bool → (t r e f : ℕ) → Scan
+held x k b t r e f = record {
+  ticking = k;
+  latch = record { segments = x .latch .segments; latched = b };
+  frame = x .frame;
   pwm = x .pwm;
-  «frc_count» = x .«frc_count»;
   row = r;
   step = t;
-  frc = (x .frc + f) % x .«frc_count»;
-  «inversion_lines» = x .«inversion_lines»;
-  «inversion_count» = countIn (x .«inversion_lines») (x .«inversion_count») e;
-  inverted = flipped (x .inverted) (flipsIn (x .«inversion_lines») (x .«inversion_count») e f);
-  segments = x .segments;
-  latched = b;
+  frc = (x .frc + f) % x .frame .«frc_count»;
+  inversion = heldInversion (x .inversion) e f;
 }
 
 via : {A B C : Type 0} → (B → C) → A ⊎ B → A ⊎ C
 via g (inl a) = inl a
 via g (inr b) = inr (g b)
 
-module _ (s : Settings) (x : Scan) (v : Valid x) (k : ScanClock) (l : Rate) (b : Bool) (t r e f : ℕ) (ro : (e ≡ 0) ⊎ RowSettled s x) (fo : (f ≡ 0) ⊎ FrameSettled s x) where
-  flat : after s x k l b t r e f ≡ held x k l b t r e f
+-- a row's end on an inversion with its lines in force
+inversion-next : (i : Inversion) (lines e f : ℕ) (ended : Bool) → inversionAfter (heldInversion i e f) lines true ended ≡ inversionIn i lines (e + 1) (cond ended (f + 1) f)
+unfolding inversionAfter inversionIn heldInversion flips countOn linesEnd
+inversion-next i lines e f ended = simp not-zero (λ j. record {
+  lines = lines;
+  count = cond (eqb (i .lines) lines) (count-next (i .lines) (i .count) e j) 0;
+  inverted = flips-next (i .lines) (i .count) e f (i .inverted) ended j;
+})
+
+module _ (x : Scan) (s : Settings) (v : Valid x) (k : Ticking) (b : Bool) (t r e f : ℕ) (ro : (e ≡ 0) ⊎ RowSettled x s) (fo : (f ≡ 0) ⊎ (frameOf s ≡ x .frame)) where
+  frcs : (f ≡ 0) ⊎ (frcCountOf (s .«gray_mode») ≡ x .frame .«frc_count»)
+  unfolding frameOf
+  frcs = via (λ h. ap (λ (g : Frame). g .«frc_count») h) fo
+
+  inversion-held : inversionIn (x .inversion) (s .«inversion_lines») e f ≡ heldInversion (x .inversion) e f
+  unfolding inversionIn heldInversion
+  inversion-held = λ i. record {
+    lines = keep e (via (λ h. h .lines) ro) i;
+    count = count-held (x .inversion .lines) (s .«inversion_lines») (x .inversion .count) e (v .inversion .count-below) (via (λ h. h .lines) ro) i;
+    inverted = flipped (x .inversion .inverted) (flipsIn (x .inversion .lines) (x .inversion .count) e f);
+  }
+
+  flat : after x s k b t r e f ≡ held x k b t r e f
   unfolding after held
   flat = λ i. record {
-    clock = k;
-    rate = l;
-    duty = keep f (via (λ h. h .duty) fo) i;
-    icon = keep f (via (λ h. h .icon) fo) i;
-    «initial_com» = keep f (via (λ h. h .initial) fo) i;
-    «common_reverse» = keep f (via (λ h. h .reverse) fo) i;
-    «start_line» = keep f (via (λ h. h .line) fo) i;
+    ticking = k;
+    latch = record { segments = x .latch .segments; latched = b };
+    frame = keep f fo i;
     pwm = keep e (via (λ h. h .pwm) ro) i;
-    «frc_count» = keep f (via (λ h. h .frcs) fo) i;
     row = r;
     step = t;
-    frc = frc-held (x .frc) (x .«frc_count») (frcCountOf (s .«gray_mode»)) f (v .frc-below) (via (λ h. h .frcs) fo) i;
-    «inversion_lines» = keep e (via (λ h. h .lines) ro) i;
-    «inversion_count» = count-held (x .«inversion_lines») (s .«inversion_lines») (x .«inversion_count») e (v .count-below) (via (λ h. h .lines) ro) i;
-    inverted = flipped (x .inverted) (flipsIn (x .«inversion_lines») (x .«inversion_count») e f);
-    segments = x .segments;
-    latched = b;
+    frc = frc-held (x .frc) (x .frame .«frc_count») (frcCountOf (s .«gray_mode»)) f (v .frc-below) frcs i;
+    inversion = inversion-held i;
   }
 
   -- the rate while the rows are those of the scan
-  rate-held : rateAfter s x f ≡ rateOf s (rows x)
+  rate-held : rateAfter x s f ≡ rateOf s (rows x)
   unfolding rateAfter
-  rate-held = λ i. rateOf s (rowsOf (keep f (via (λ h. h .duty) fo) i) (keep f (via (λ h. h .icon) fo) i))
+  rate-held = λ i. rateOf s (rowsIn (keep f fo i))
 
-  inside : t + 1 < x .pwm → quantum s (held x k l b t r e f) ≡ held x (ticked 1 l (rateOf s (rows x)) k) (rateOf s (rows x)) false (t + 1) r e f
-  unfolding quantum flips counted linesEnd rowsAfter frameEnds rowEnds held
+  inside : t + 1 < x .pwm → quantum (held x k b t r e f) s ≡ held x (tickedTo k (rateOf s (rows x))) false (t + 1) r e f
+  unfolding quantum inversionAfter flips frameAfter frameEnds rowEnds held
   inside h = simp (lt-leb (x .pwm) (t + 1) h, cond-same)
 
-  row-end : x .pwm ≤ t + 1 → r + 1 < rows x → quantum s (held x k l b t r e f) ≡ after s x (ticked 1 l (rateOf s (rows x)) k) (rateOf s (rows x)) false 0 (r + 1) (e + 1) f
-  unfolding quantum flips counted linesEnd rowsAfter frameEnds rowEnds held after
-  row-end h g = simp (le-leb (x .pwm) (t + 1) h, lt-leb (rows x) (r + 1) g, not-zero) (sym (λ i. record {
-    clock = ticked 1 l (rateOf s (rows x)) k;
-    rate = rateOf s (rows x);
-    duty = keep f (via (λ h. h .duty) fo) i;
-    icon = keep f (via (λ h. h .icon) fo) i;
-    «initial_com» = keep f (via (λ h. h .initial) fo) i;
-    «common_reverse» = keep f (via (λ h. h .reverse) fo) i;
-    «start_line» = keep f (via (λ h. h .line) fo) i;
+  row-end : x .pwm ≤ t + 1 → r + 1 < rows x → quantum (held x k b t r e f) s ≡ after x s (tickedTo k (rateOf s (rows x))) false 0 (r + 1) (e + 1) f
+  unfolding quantum frameAfter frameEnds rowEnds held after
+  row-end h g = simp (le-leb (x .pwm) (t + 1) h, lt-leb (rows x) (r + 1) g, not-zero) (λ i. record {
+    ticking = tickedTo k (rateOf s (rows x));
+    latch = record { segments = x .latch .segments; latched = false };
+    frame = sym (keep f fo) i;
     pwm = pwmOf (s .«gray_mode»);
-    «frc_count» = keep f (via (λ h. h .frcs) fo) i;
     row = r + 1;
     step = 0;
-    frc = frc-held (x .frc) (x .«frc_count») (frcCountOf (s .«gray_mode»)) f (v .frc-below) (via (λ h. h .frcs) fo) i;
-    «inversion_lines» = s .«inversion_lines»;
-    «inversion_count» = cond (eqb (x .«inversion_lines») (s .«inversion_lines»)) (sym (count-next (x .«inversion_lines») (x .«inversion_count») e) i) 0;
-    inverted = sym (flips-next (x .«inversion_lines») (x .«inversion_count») e f (x .inverted) false) i;
-    segments = x .segments;
-    latched = false;
-  }))
-
-  frame-end : x .pwm ≤ t + 1 → rows x ≤ r + 1 → quantum s (held x k l b t r e f) ≡ after s x (ticked 1 l (rateAfter s x (f + 1)) k) (rateAfter s x (f + 1)) false 0 0 (e + 1) (f + 1)
-  unfolding quantum flips counted linesEnd rowsAfter frameEnds rowEnds held after rateAfter
-  frame-end h g = simp (le-leb (x .pwm) (t + 1) h, le-leb (rows x) (r + 1) g, not-zero) (λ i. record {
-    clock = ticked 1 l (rateOf s (rowsOf (s .duty) (s .«icon_enabled»))) k;
-    rate = rateOf s (rowsOf (s .duty) (s .«icon_enabled»));
-    duty = s .duty;
-    icon = s .«icon_enabled»;
-    «initial_com» = s .«initial_com»;
-    «common_reverse» = s .«common_reverse»;
-    «start_line» = s .«start_line»;
-    pwm = pwmOf (s .«gray_mode»);
-    «frc_count» = frcCountOf (s .«gray_mode»);
-    row = 0;
-    step = 0;
-    frc = frc-next (x .frc) (x .«frc_count») (frcCountOf (s .«gray_mode»)) f (v .frc-below) (via (λ h. h .frcs) fo) i;
-    «inversion_lines» = s .«inversion_lines»;
-    «inversion_count» = cond (eqb (x .«inversion_lines») (s .«inversion_lines»)) (count-next (x .«inversion_lines») (x .«inversion_count») e i) 0;
-    inverted = flips-next (x .«inversion_lines») (x .«inversion_count») e f (x .inverted) true i;
-    segments = x .segments;
-    latched = false;
+    frc = sym (frc-held (x .frc) (x .frame .«frc_count») (frcCountOf (s .«gray_mode»)) f (v .frc-below) frcs) i;
+    inversion = inversion-next (x .inversion) (s .«inversion_lines») e f false i;
   })
 
+  frame-end : x .pwm ≤ t + 1 → rows x ≤ r + 1 → quantum (held x k b t r e f) s ≡ after x s (tickedTo k (rateAfter x s (f + 1))) false 0 0 (e + 1) (f + 1)
+  unfolding quantum frameAfter frameEnds rowEnds held after rateAfter
+  frame-end h g = simp (le-leb (x .pwm) (t + 1) h, le-leb (rows x) (r + 1) g, not-zero) (λ i. record {
+    ticking = tickedTo k (rateOf s (rowsIn (frameOf s)));
+    latch = record { segments = x .latch .segments; latched = false };
+    frame = frameOf s;
+    pwm = pwmOf (s .«gray_mode»);
+    row = 0;
+    step = 0;
+    frc = frc-next (x .frc) (x .frame .«frc_count») (frcCountOf (s .«gray_mode»)) f (v .frc-below) frcs i;
+    inversion = inversion-next (x .inversion) (s .«inversion_lines») e f true i;
+  })
+
+-- a clock ticked once is ticked by one
+ticked-once : (k : ScanClock) (r new : Rate) → ticked k r new ≡ tickedBy 1 k r new
+unfolding ticked tickedBy
+ticked-once (ScanClock.Running c) r new = refl
+ticked-once ScanClock.Stopped r new = refl
+
 -- a clock ticked n times at one rate, and once more
-pub ticked-ticked : (n : ℕ) (r new : Rate) (k : ScanClock) → ticked 1 r new (ticked n r r k) ≡ ticked (n + 1) r new k
-unfolding ticked
-ticked-ticked n r new (ScanClock.Running c) = simp (same-refl r, moved-moved r c n 1)
-ticked-ticked n r new ScanClock.Stopped = refl
+ticked-ticked : (n : ℕ) (k : ScanClock) (r new : Rate) → ticked (tickedBy n k r r) r new ≡ tickedBy (n + 1) k r new
+unfolding ticked tickedBy
+ticked-ticked n (ScanClock.Running c) r new = simp (same-refl r, moved-moved c r n 1)
+ticked-ticked n ScanClock.Stopped r new = refl
 
--- clock, rate and latch mark after n quanta
-unfoldable pub clockIn : Settings → Scan → ℕ → ScanClock
-clockIn s x zero = x .clock
-clockIn s x (suc n) = ticked (suc n) (x .rate) (rateAfter s x (endedFrames x (suc n))) (x .clock)
-
-unfoldable pub rateIn : Settings → Scan → ℕ → Rate
-rateIn s x zero = x .rate
-rateIn s x (suc n) = rateAfter s x (endedFrames x (suc n))
+-- clock and rate, and latch mark, after n quanta
+unfoldable pub tickingIn : Scan → Settings → ℕ → Ticking
+tickingIn x s zero = x .ticking
+tickingIn x s (suc n) = record {
+  clock = tickedBy (suc n) (x .ticking .clock) (x .ticking .rate) (rateAfter x s (endedFrames x (suc n)));
+  rate = rateAfter x s (endedFrames x (suc n));
+}
 
 unfoldable pub latchIn : Scan → ℕ → Bool
-latchIn x zero = x .latched
+latchIn x zero = x .latch .latched
 latchIn x (suc n) = false
 
-unfoldable pub whole : Settings → Scan → ℕ → Scan
-whole s x n = closed s x (clockIn s x n) (rateIn s x n) (latchIn x n) n
+unfoldable pub whole : Scan → Settings → ℕ → Scan
+whole x s n = closed x s (tickingIn x s n) (latchIn x n) n
 
 -- n quanta after which a further one begins with no setting changed
-pub record Ok (s : Settings) (x : Scan) (n : ℕ) : Type 0 where
-  pub row-ok : (endedRows x n ≡ 0) ⊎ RowSettled s x
-  pub frame-ok : (endedFrames x n ≡ 0) ⊎ FrameSettled s x
-  pub rate-ok : (n ≡ 0) ⊎ (rateOf s (rows x) ≡ x .rate)
+pub record Ok (x : Scan) (s : Settings) (n : ℕ) : Type 0 where
+  pub row-ok : (endedRows x n ≡ 0) ⊎ RowSettled x s
+  pub frame-ok : (endedFrames x n ≡ 0) ⊎ (frameOf s ≡ x .frame)
+  pub rate-ok : (n ≡ 0) ⊎ (rateOf s (rows x) ≡ x .ticking .rate)
 
-module _ (s : Settings) (x : Scan) (v : Valid x) where
-  pub rows-rate : (f : ℕ) → (f ≡ 0) ⊎ FrameSettled s x → rateAfter s x f ≡ rateOf s (rows x)
-  rows-rate f fo = rate-held s x v (x .clock) (x .rate) false 0 0 0 f (inl refl) fo
+module _ (x : Scan) (s : Settings) (v : Valid x) where
+  rows-rate : (f : ℕ) → (f ≡ 0) ⊎ (frameOf s ≡ x .frame) → rateAfter x s f ≡ rateOf s (rows x)
+  rows-rate f fo = rate-held x s v (x .ticking) false 0 0 0 f (inl refl) fo
 
   -- while another quantum follows, rate and clock are those of the scan
-  pub rate-stays : (n : ℕ) → Ok s x n → rateIn s x n ≡ x .rate
-  unfolding rateIn
+  pub rate-stays : (n : ℕ) → Ok x s n → tickingIn x s n .rate ≡ x .ticking .rate
+  unfolding tickingIn
   rate-stays zero ok = refl
   rate-stays (suc n) ok = rows-rate (endedFrames x (suc n)) (ok .frame-ok) ∙ go (ok .rate-ok)
     where
-      go : (suc n ≡ 0) ⊎ (rateOf s (rows x) ≡ x .rate) → rateOf s (rows x) ≡ x .rate
+      go : (suc n ≡ 0) ⊎ (rateOf s (rows x) ≡ x .ticking .rate) → rateOf s (rows x) ≡ x .ticking .rate
       go (inl z) = absurd (omega arith)
       go (inr e) = e
 
-  clock-next : (n : ℕ) → Ok s x n → (new : Rate) → ticked 1 (rateIn s x n) new (clockIn s x n) ≡ ticked (suc n) (x .rate) new (x .clock)
-  unfolding clockIn rateIn
-  clock-next zero ok new = refl
+  clock-next : (n : ℕ) → Ok x s n → (new : Rate) → ticked (tickingIn x s n .clock) (tickingIn x s n .rate) new ≡ tickedBy (suc n) (x .ticking .clock) (x .ticking .rate) new
+  unfolding tickingIn
+  clock-next zero ok new = ticked-once (x .ticking .clock) (x .ticking .rate) new
   clock-next (suc n) ok new =
       let e = rate-stays (suc n) ok in
-      ap (λ (q : Rate). ticked 1 q new (ticked (suc n) (x .rate) q (x .clock))) e
-      ∙ ticked-ticked (suc n) (x .rate) new (x .clock)
-      ∙ ap (λ (m : ℕ). ticked m (x .rate) new (x .clock)) (add-one (suc n))
+      ap (λ (q : Rate). ticked (tickedBy (suc n) (x .ticking .clock) (x .ticking .rate) q) q new) e
+      ∙ ticked-ticked (suc n) (x .ticking .clock) (x .ticking .rate) new
+      ∙ ap (λ (m : ℕ). tickedBy m (x .ticking .clock) (x .ticking .rate) new) (add-one (suc n))
 
-  module _ (n : ℕ) (ok : Ok s x n) where
-    -- with the clock and the rate after n + 1 quanta, for f ended frames
-    abbrev ended : ℕ → ℕ → ℕ → ℕ → Scan
-    ended t r e f = after s x (ticked (suc n) (x .rate) (rateAfter s x f) (x .clock)) (rateAfter s x f) false t r e f
+  module _ (n : ℕ) (ok : Ok x s n) where
+    -- with the clock and the rate after n + 1 quanta, for the rate q
+    abbrev ended : Rate → (t r e f : ℕ) → Scan
+    ended q t r e f = after x s (record { clock = tickedBy (suc n) (x .ticking .clock) (x .ticking .rate) q; rate = q }) false t r e f
 
-    ends : (t r e f : ℕ) (new : Rate) → new ≡ rateAfter s x f → (x .step + suc n) % x .pwm ≡ t → endedRows x (suc n) ≡ e → (x .row + e) % rows x ≡ r → (x .row + e) / rows x ≡ f → after s x (ticked 1 (rateIn s x n) new (clockIn s x n)) new false t r e f ≡ whole s x (suc n)
-    unfolding whole closed clockIn rateIn latchIn
+    ends : (t r e f : ℕ) (new : Rate) → new ≡ rateAfter x s f → (x .step + suc n) % x .pwm ≡ t → endedRows x (suc n) ≡ e → (x .row + e) % rows x ≡ r → (x .row + e) / rows x ≡ f → after x s (tickedTo (tickingIn x s n) new) false t r e f ≡ whole x s (suc n)
+    unfolding whole closed tickedTo tickingIn latchIn
     ends t r e f new p pt pe pr pf =
-        ap (λ (q : ScanClock). after s x q new false t r e f) (clock-next n ok new)
-        ∙ ap (λ (q : Rate). after s x (ticked (suc n) (x .rate) q (x .clock)) q false t r e f) p
-        ∙ (λ i. ended (sym pt i) (sym pr i) e (sym pf i))
-        ∙ ap (λ (m : ℕ). ended ((x .step + suc n) % x .pwm) ((x .row + m) % rows x) m ((x .row + m) / rows x)) (sym pe)
+        ap (λ (q : ScanClock). after x s (record { clock = q; rate = new }) false t r e f) (clock-next n ok new)
+        ∙ ap (λ (q : Rate). ended q t r e f) p
+        ∙ (λ i. ended (rateAfter x s (sym pf i)) (sym pt i) (sym pr i) e (sym pf i))
+        ∙ ap (λ (m : ℕ). ended (rateAfter x s ((x .row + m) / rows x)) ((x .step + suc n) % x .pwm) ((x .row + m) % rows x) m ((x .row + m) / rows x)) (sym pe)
 
-    next : quantum s (whole s x n) ≡ whole s x (suc n)
+    next : quantum (whole x s n) s ≡ whole x s (suc n)
     unfolding whole closed
     next = go (leb (x .pwm) (t + 1)) refl (leb (rows x) (r + 1)) refl
       where
@@ -227,30 +220,27 @@ module _ (s : Settings) (x : Scan) (v : Valid x) where
         rows-pos : 0 < rows x
         rows-pos = omega (arith, v .row-below)
 
-        k : ScanClock
-        k = clockIn s x n
-
-        l : Rate
-        l = rateIn s x n
+        k : Ticking
+        k = tickingIn x s n
 
         b : Bool
         b = latchIn x n
 
-        flattened : quantum s (whole s x n) ≡ quantum s (held x k l b t r e f)
-        flattened = ap (quantum s) (flat s x v k l b t r e f (ok .row-ok) (ok .frame-ok))
+        flattened : quantum (whole x s n) s ≡ quantum (held x k b t r e f) s
+        flattened = ap (λ (y : Scan). quantum y s) (flat x s v k b t r e f (ok .row-ok) (ok .frame-ok))
 
-        go : (a : Bool) → leb (x .pwm) (t + 1) ≡ a → (c : Bool) → leb (rows x) (r + 1) ≡ c → quantum s (whole s x n) ≡ whole s x (suc n)
+        go : (a : Bool) → leb (x .pwm) (t + 1) ≡ a → (c : Bool) → leb (rows x) (r + 1) ≡ c → quantum (whole x s n) s ≡ whole x s (suc n)
         go false h c g =
             flattened
-            ∙ inside s x v k l b t r e f (ok .row-ok) (ok .frame-ok) (leb-false _ _ h)
-            ∙ sym (flat s x v (ticked 1 l (rateOf s (rows x)) k) (rateOf s (rows x)) false (t + 1) r e f (ok .row-ok) (ok .frame-ok))
+            ∙ inside x s v k b t r e f (ok .row-ok) (ok .frame-ok) (leb-false _ _ h)
+            ∙ sym (flat x s v (tickedTo k (rateOf s (rows x))) false (t + 1) r e f (ok .row-ok) (ok .frame-ok))
             ∙ ends (t + 1) r e f (rateOf s (rows x)) (sym (rows-rate f (ok .frame-ok)))
             (mod-in (x .step + n) (x .pwm) {a' = x .step + suc n} (omega arith) (leb-false _ _ h))
             (div-in (x .step + n) (x .pwm) {a' = x .step + suc n} (omega arith) (leb-false _ _ h))
             refl refl
         go true h false g =
             flattened
-            ∙ row-end s x v k l b t r e f (ok .row-ok) (ok .frame-ok) (leb-true _ _ h) (leb-false _ _ g)
+            ∙ row-end x s v k b t r e f (ok .row-ok) (ok .frame-ok) (leb-true _ _ h) (leb-false _ _ g)
             ∙ ends 0 (r + 1) (e + 1) f (rateOf s (rows x)) (sym (rows-rate f (ok .frame-ok)))
             (mod-out (x .step + n) (x .pwm) {a' = x .step + suc n} (omega arith) pwm-pos (leb-true _ _ h))
             (div-out (x .step + n) (x .pwm) {a' = x .step + suc n} (omega arith) pwm-pos (leb-true _ _ h))
@@ -258,16 +248,16 @@ module _ (s : Settings) (x : Scan) (v : Valid x) where
             (div-in (x .row + e) (rows x) {a' = x .row + (e + 1)} (omega arith) (leb-false _ _ g))
         go true h true g =
             flattened
-            ∙ frame-end s x v k l b t r e f (ok .row-ok) (ok .frame-ok) (leb-true _ _ h) (leb-true _ _ g)
-            ∙ ends 0 0 (e + 1) (f + 1) (rateAfter s x (f + 1)) refl
+            ∙ frame-end x s v k b t r e f (ok .row-ok) (ok .frame-ok) (leb-true _ _ h) (leb-true _ _ g)
+            ∙ ends 0 0 (e + 1) (f + 1) (rateAfter x s (f + 1)) refl
             (mod-out (x .step + n) (x .pwm) {a' = x .step + suc n} (omega arith) pwm-pos (leb-true _ _ h))
             (div-out (x .step + n) (x .pwm) {a' = x .step + suc n} (omega arith) pwm-pos (leb-true _ _ h))
             (mod-out (x .row + e) (rows x) {a' = x .row + (e + 1)} (omega arith) rows-pos (leb-true _ _ g))
             (div-out (x .row + e) (rows x) {a' = x .row + (e + 1)} (omega arith) rows-pos (leb-true _ _ g))
 
-  pub first : x ≡ whole s x zero
-  unfolding whole closed after clockIn rateIn latchIn
-  first =
+  pub none-counted : x ≡ whole x s zero
+  unfolding whole closed after inversionIn tickingIn latchIn
+  none-counted =
       let st : x .step < x .pwm = v .step-below in
       let ro : x .row < rows x = v .row-below in
       simp (
@@ -276,11 +266,11 @@ module _ (s : Settings) (x : Scan) (v : Valid x) where
         mod-eq-of-lt st,
         div-eq-of-lt ro,
         mod-eq-of-lt ro,
-        flips-none (x .«inversion_lines») (x .«inversion_count») (v .count-below),
+        flips-none (x .inversion .lines) (x .inversion .count) (v .inversion .count-below),
       )
 
   -- n quanta are what division and remainder give
-  pub quanta-whole : (n : ℕ) → ((m : ℕ) → m < n → Ok s x m) → quanta n s x ≡ whole s x n
+  pub quanta-whole : (n : ℕ) → ((m : ℕ) → m < n → Ok x s m) → quanta n x s ≡ whole x s n
   unfolding quanta
-  quanta-whole zero ok = first
-  quanta-whole (suc n) ok = ap (quantum s) (quanta-whole n (λ m h. ok m (omega arith))) ∙ next n (ok n (omega arith))
+  quanta-whole zero ok = none-counted
+  quanta-whole (suc n) ok = ap (λ (y : Scan). quantum y s) (quanta-whole n (λ m h. ok m (omega arith))) ∙ next n (ok n (omega arith))

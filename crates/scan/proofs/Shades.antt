@@ -1,10 +1,11 @@
--- Shades and pulse widths: their bounds, and a width beyond PWM.
+-- Shades and pulse widths: their bounds.
 use Prim.Native.Nat.{ℕ, _-_, _≤_, _<_}
 use mathlib.Core.Bool.{Bool, true, false, cond}
 use mathlib.Core.List.{List}
-use mathlib.Core.Path.{_≡_, _∙_}
+use mathlib.Core.Path.{_≡_, refl}
 use native.Mathlib.Omega.{arith}
-use borrow.Author.Tests.{le-leb, lt-leb}
+use lib.Dec.{leb}
+use borrow.Author.Tests.{leb-true}
 use Rattle.scan.specs.declared.settings.Settings.{Settings}
 use Rattle.scan.specs.Shade.{columnOf, planes, shadeOf, paletteWidth, pulseWidth}
 
@@ -13,21 +14,20 @@ column-lt true segment h = omega arith
 column-lt false segment h = h
 
 -- there are four shades
-pub shade-lt : (s : Settings) (part : List ℕ) (place segment : ℕ) → shadeOf s part place segment < 4
+pub shade-lt : (s : Settings) (part : List ℕ) (bit segment : ℕ) → shadeOf s part bit segment < 4
 unfolding shadeOf
-shade-lt s part place segment = go (s .«entire_on») (s .reverse) (planes part place (columnOf (s .«segment_reverse») segment)) (omega arith)
+shade-lt s part bit segment = go (s .«entire_on») (s .reverse) (planes part bit (columnOf (s .«segment_reverse») segment)) (omega arith)
   where
     go : (on reversed : Bool) (n : ℕ) → n < 4 → cond on 3 (cond reversed (3 - n) n) < 4
     go true reversed n h = omega arith
     go false true n h = omega arith
     go false false n h = h
 
-module _ (s : Settings) (shade phase pwm : ℕ) where
-  pub pulse : {width : ℕ} → width ≡ paletteWidth (s .palette) shade phase → width ≤ pwm → width ≡ pulseWidth s shade phase pwm
-  unfolding pulseWidth
-  pulse {width} e h = e ∙ simp (le-leb (paletteWidth (s .palette) shade phase) pwm (rw e at h))
-
-  -- every palette width above PWM gives no pulse
-  pub no-pulse : pwm < paletteWidth (s .palette) shade phase → pulseWidth s shade phase pwm ≡ 0
-  unfolding pulseWidth
-  no-pulse h = simp (lt-leb (paletteWidth (s .palette) shade phase) pwm h)
+-- a pulse is no wider than the PWM
+pub pulse-le : (s : Settings) (shade phase pwm : ℕ) → pulseWidth s shade phase pwm ≤ pwm
+unfolding pulseWidth
+pulse-le s shade phase pwm = go _ (leb (paletteWidth (s .palette) shade phase) pwm) refl
+  where
+    go : (n : ℕ) (t : Bool) → leb n pwm ≡ t → cond t n 0 ≤ pwm
+    go n true h = leb-true n pwm h
+    go n false h = omega arith

@@ -1,18 +1,39 @@
--- What the private functions of src/count.rt compute by division and remainder: n quanta at once. Nothing here is a rule;
--- proofs/Quanta.antt shows that it equals `quanta`.
-use Prim.Native.Nat.{ℕ, _+_, _/_, _%_}
-use mathlib.Core.Bool.{Bool, true, cond, not}
+-- What the contracts of private functions cite: n quanta at once by division and remainder (src/closed.rt), a piece as
+-- src/count.rt answers it, the activity of the four shades, the levels of the four shades. Nothing here is a rule; the laws
+-- show that it comes to what the rules say.
+use Prim.Native.Nat.{ℕ, zero, suc, _+_, _/_, _%_}
+use mathlib.Core.Bool.{Bool, true, false, cond, not}
+use mathlib.Core.List.{List, [], _∷_}
 use lib.Dec.{ltb, eqb}
+use lib.ListN.{getD}
 use Rattle.clock.specs.declared.time.Time.{Time}
 use Rattle.clock.specs.declared.rate.Rate.{Rate}
-use Rattle.clock.specs.Clock.{edgesTo}
+use Rattle.clock.specs.Rate.{sameRate}
+use Rattle.clock.specs.Edges.{started, movedBy, edgesTo}
 use Rattle.scan.specs.declared.settings.Settings.{Settings}
 use Rattle.scan.specs.declared.state.Scan.{Scan}
 use Rattle.scan.specs.declared.state.ScanClock.{ScanClock}
-use Rattle.scan.specs.Settings.{pwmOf, frcCountOf}
-use Rattle.scan.specs.State.{rows}
+use Rattle.scan.specs.declared.state.Ticking.{Ticking}
+use Rattle.scan.specs.declared.state.Inversion.{Inversion}
 use Rattle.scan.specs.declared.count.Piece.{Piece}
+use Rattle.scan.specs.Settings.{pwmOf, frcCountOf, frameOf}
+use Rattle.scan.specs.State.{rows}
+use Rattle.scan.specs.Quantum.{quantum}
 use Rattle.scan.specs.Count.{due, limitWith, piece}
+use Rattle.scan.specs.Shade.{shadeOf}
+use Rattle.scan.specs.Latch.{shadeActive}
+use Rattle.scan.specs.Image.{levelOf}
+
+-- n quanta, one after another
+unfoldable pub quanta : ℕ → Scan → Settings → Scan
+quanta zero x s = x
+quanta (suc n) x s = quantum (quanta n x s) s
+
+-- n edges further at rate r; where the rate then is another, a new clock starts at the last of them
+unfoldable pub tickedBy : ℕ → ScanClock → Rate → (new : Rate) → ScanClock
+tickedBy n (ScanClock.Running c) r new =
+    cond (sameRate r new) (ScanClock.Running (movedBy c r n)) (ScanClock.Running (started (movedBy c r n .at) new))
+tickedBy n ScanClock.Stopped r new = ScanClock.Stopped
 
 -- b after n flips
 abbrev pub flipped : Bool → ℕ → Bool
@@ -34,26 +55,72 @@ countTaken lines taken count e = cond (eqb lines taken) (countIn lines count e) 
 abbrev pub countAfter : ℕ → ℕ → ℕ → ℕ → ℕ
 countAfter lines taken count e = cond (eqb e 0) count (countTaken lines taken count e)
 
--- the scan at step t and row r, e rows and f frames later, with a given clock, rate and latch mark
-unfoldable pub after : Settings → Scan → ScanClock → Rate → Bool → ℕ → ℕ → ℕ → ℕ → Scan
-after s x k l b t r e f = record {
-  clock = k;
-  rate = l;
-  duty = cond (eqb f 0) (x .duty) (s .duty);
-  icon = cond (eqb f 0) (x .icon) (s .«icon_enabled»);
-  «initial_com» = cond (eqb f 0) (x .«initial_com») (s .«initial_com»);
-  «common_reverse» = cond (eqb f 0) (x .«common_reverse») (s .«common_reverse»);
-  «start_line» = cond (eqb f 0) (x .«start_line») (s .«start_line»);
+-- the inversion e ended rows and f ended frames later, the last row's end taking `lines`
+unfoldable pub inversionIn : Inversion → (lines e f : ℕ) → Inversion
+inversionIn i lines e f = record {
+  lines = cond (eqb e 0) (i .lines) lines;
+  count = countAfter (i .lines) lines (i .count) e;
+  inverted = flipped (i .inverted) (flipsIn (i .lines) (i .count) e f);
+}
+
+-- the same where a row has ended
+abbrev pub inversionTaken : Inversion → (lines e f : ℕ) → Inversion
+inversionTaken i lines e f = record {
+  lines = lines;
+  count = countTaken (i .lines) lines (i .count) e;
+  inverted = flipped (i .inverted) (flipsIn (i .lines) (i .count) e f);
+}
+
+-- the scan at step t and row r, e rows and f frames later, with a given clock and rate and latch mark
+unfoldable pub after : Scan → Settings → Ticking → Bool → (t r e f : ℕ) → Scan
+after x s k b t r e f = record {
+  ticking = k;
+  latch = record { segments = x .latch .segments; latched = b };
+  frame = cond (eqb f 0) (x .frame) (frameOf s);
   pwm = cond (eqb e 0) (x .pwm) (pwmOf (s .«gray_mode»));
-  «frc_count» = cond (eqb f 0) (x .«frc_count») (frcCountOf (s .«gray_mode»));
   row = r;
   step = t;
   frc = cond (eqb f 0) (x .frc) ((x .frc + f) % frcCountOf (s .«gray_mode»));
-  «inversion_lines» = cond (eqb e 0) (x .«inversion_lines») (s .«inversion_lines»);
-  «inversion_count» = countAfter (x .«inversion_lines») (s .«inversion_lines») (x .«inversion_count») e;
-  inverted = flipped (x .inverted) (flipsIn (x .«inversion_lines») (x .«inversion_count») e f);
-  segments = x .segments;
-  latched = b;
+  inversion = inversionIn (x .inversion) (s .«inversion_lines») e f;
+}
+
+-- within a row, only the step moves
+abbrev pub inRow : Scan → (t : ℕ) → Scan
+inRow x t = record {
+  ticking = x .ticking;
+  latch = record { segments = x .latch .segments; latched = false };
+  frame = x .frame;
+  pwm = x .pwm;
+  row = x .row;
+  step = t;
+  frc = x .frc;
+  inversion = x .inversion;
+}
+
+-- at step t and row r, where e rows have ended
+abbrev pub rowsEnded : Scan → Settings → (t r e f : ℕ) → Scan
+rowsEnded x s t r e f = record {
+  ticking = x .ticking;
+  latch = record { segments = x .latch .segments; latched = false };
+  frame = x .frame;
+  pwm = pwmOf (s .«gray_mode»);
+  row = r;
+  step = t;
+  frc = x .frc;
+  inversion = inversionTaken (x .inversion) (s .«inversion_lines») e f;
+}
+
+-- where f frames have ended too
+abbrev pub framesEnded : Scan → Settings → (f : ℕ) → Scan
+framesEnded x s f = record {
+  ticking = x .ticking;
+  latch = x .latch;
+  frame = frameOf s;
+  pwm = x .pwm;
+  row = x .row;
+  step = x .step;
+  frc = (x .frc + f) % frcCountOf (s .«gray_mode»);
+  inversion = x .inversion;
 }
 
 -- the rows ended and the frames ended by n quanta
@@ -63,23 +130,39 @@ endedRows x n = (x .step + n) / x .pwm
 abbrev pub endedFrames : Scan → ℕ → ℕ
 endedFrames x n = (x .row + endedRows x n) / rows x
 
--- the counters after n quanta, with a given clock, rate and latch mark
-unfoldable pub closed : Settings → Scan → ScanClock → Rate → Bool → ℕ → Scan
-closed s x k l b n =
-    after s x k l b ((x .step + n) % x .pwm) ((x .row + endedRows x n) % rows x) (endedRows x n) (endedFrames x n)
+-- the counters after n quanta, with a given clock and rate and latch mark
+unfoldable pub closed : Scan → Settings → Ticking → Bool → ℕ → Scan
+closed x s k b n =
+    after x s k b ((x .step + n) % x .pwm) ((x .row + endedRows x n) % rows x) (endedRows x n) (endedFrames x n)
 
 -- the piece rule's limit in 64 bits, for which all is the largest
-abbrev pub limitIn : Settings → Scan → ℕ
-limitIn s x = limitWith s x 18446744073709551615
+abbrev pub limitIn : Scan → Settings → ℕ
+limitIn x s = limitWith x s 18446744073709551615
 
 -- the edges up to now are fewer than the limit, so one piece counts them all
 unfoldable pub endsAt : ScanClock → Rate → (limit : ℕ) → Time → Bool
-endsAt (ScanClock.Running c) r limit now = ltb (edgesTo r c now) limit
+endsAt (ScanClock.Running c) r limit now = ltb (edgesTo c r now) limit
 endsAt ScanClock.Stopped r limit now = true
 
-unfoldable pub endsWithin : Settings → Scan → Time → Bool
-endsWithin s x now = endsAt (x .clock) (x .rate) (limitIn s x) now
+unfoldable pub endsWithin : Scan → Settings → Time → Bool
+endsWithin x s now = endsAt (x .ticking .clock) (x .ticking .rate) (limitIn x s) now
 
 -- one use of the piece rule, as src/count.rt answers it
-unfoldable pub pieceOf : Settings → Scan → Time → Piece
-pieceOf s x now = record { counted = due x now; last = endsWithin s x now; scan = piece s x now }
+unfoldable pub pieceOf : Scan → Settings → Time → Piece
+pieceOf x s now = record { counted = due x now; last = endsWithin x s now; scan = piece x s now }
+
+-- the activity of the four shades, from 0 on
+abbrev pub activeShades : Scan → Settings → List Bool
+activeShades x s = shadeActive x s 0 ∷ shadeActive x s 1 ∷ shadeActive x s 2 ∷ shadeActive x s 3 ∷ []
+
+-- the activity of a row's segments from that of the shades, the row standing at `place` in the 256 bytes of `part`
+abbrev pub rowActive : List Bool → Settings → (part : List ℕ) → (place : ℕ) → (segment : ℕ) → Bool
+rowActive active s part place segment = getD active (shadeOf s part place segment) false
+
+-- the levels of the four shades in the image
+unfoldable pub levelsOf : Settings → List ℕ
+levelsOf s = levelOf s 0 ∷ levelOf s 1 ∷ levelOf s 2 ∷ levelOf s 3 ∷ []
+
+-- a pixel that shows nothing
+abbrev pub dark : (x : ℕ) → ℕ
+dark x = 0

@@ -1,28 +1,33 @@
--- Document 01, 'Drive, electrodes, image': when the glass is driven, what it is driven with, and the level of each electrode.
-use Prim.Native.Nat.{ℕ, _+_, _-_, _/_, _%_, _^_}
+-- Document 01, 'Drive, electrodes, image': when the scan runs and the glass is driven, what it is driven with, and the level of
+-- each electrode.
+use Prim.Native.Nat.{ℕ, _+_, _-_, _*_, _/_, _%_, _^_}
 use mathlib.Core.Bool.{Bool, false, cond, not, _&&_}
 use mathlib.Core.List.{List, [], _∷_}
 use mathlib.Core.Option.{Option, none, some}
 use lib.Dec.{leb, ltb, eqb}
 use lib.ListN.{getD}
+use Rattle.checks.specs.Checks.{changed}
 use Rattle.clock.specs.declared.time.Time.{Time}
 use Rattle.voltage.specs.declared.Level.{Level}
 use Rattle.voltage.specs.declared.LcdVoltages.{LcdVoltages}
 use Rattle.voltage.specs.Voltage.{voltages}
 use Rattle.scan.specs.declared.settings.Settings.{Settings}
 use Rattle.scan.specs.declared.state.Scan.{Scan}
-use Rattle.scan.specs.declared.state.Check.{Check}
 use Rattle.scan.specs.declared.drive.Conditions.{Conditions}
 use Rattle.scan.specs.declared.drive.Common.{Common}
 use Rattle.scan.specs.declared.drive.LcdDrive.{LcdDrive}
 use Rattle.scan.specs.declared.drive.Driven.{Driven}
 use Rattle.scan.specs.declared.drive.Electrode.{Electrode}
-use Rattle.scan.specs.Settings.{validSettings}
+use Rattle.scan.specs.Check.{refused, validSettings, checkLent}
 use Rattle.scan.specs.Count.{countTo}
 use Rattle.scan.specs.Latch.{shown}
-use Rattle.scan.specs.Run.{checkCall}
 use Rattle.voltage.specs.declared.Settings as analog
 use Rattle.voltage.specs.Check as analogs
+use Rattle.voltage.specs.Voltage as supplies
+
+-- 'Scan': the scan runs with the oscillator on and no power save
+unfoldable pub runs : Conditions → Bool
+runs c = c .«oscillator_enabled» && not (c .supply .«power_save»)
 
 -- supply from 2400 mV, no wait, display on, no power save, oscillator on
 unfoldable pub driven : Conditions → Bool
@@ -40,8 +45,8 @@ grounded c = c .supply .«power_save» && leb 1650 (c .supply .«supply_millivol
 -- the row equal to duty is common 128, else (first common + row) mod 128, taken from 127 when reversed
 unfoldable pub commonOf : Scan → ℕ
 commonOf x =
-    cond (eqb (x .row) (x .duty)) 128
-    (cond (x .«common_reverse») (127 - (x .«initial_com» + x .row) % 128) ((x .«initial_com» + x .row) % 128))
+    cond (eqb (x .row) (x .frame .duty)) 128
+    (cond (x .frame .«common_reverse») (127 - (x .frame .«initial_com» + x .row) % 128) ((x .frame .«initial_com» + x .row) % 128))
 
 -- no common selected and no segment active
 abbrev pub unselected : LcdVoltages → (grounded : Bool) → LcdDrive
@@ -51,38 +56,34 @@ unfoldable pub undriven : Conditions → LcdVoltages → LcdDrive
 undriven c v = unselected v (grounded c)
 
 -- the drive of a scan counted to the moment
-unfoldable pub driveOf : Settings → Scan → LcdVoltages → (ram icons : List ℕ) → LcdDrive
-driveOf s x v ram icons =
-    record { common = Common.Selected (commonOf x); segments = shown s x ram icons; inverted = x .inverted; voltages = v; grounded = false }
+unfoldable pub driveOf : Scan → Settings → LcdVoltages → (ram icons : List ℕ) → LcdDrive
+driveOf x s v ram icons =
+    record { common = Common.Selected (commonOf x); segments = shown x s ram icons; inverted = x .inversion .inverted; voltages = v; grounded = false }
 
-unfoldable pub driveAt : Settings → Scan → LcdVoltages → Conditions → Time → (ram icons : List ℕ) → LcdDrive
-driveAt s x v c now ram icons = cond (driven c) (driveOf s (countTo s x now) v ram icons) (undriven c v)
+unfoldable pub driveAt : Scan → Settings → LcdVoltages → Conditions → Time → (ram icons : List ℕ) → LcdDrive
+driveAt x s v c now ram icons = cond (driven c) (driveOf (countTo x s now) s v ram icons) (undriven c v)
 
--- no level is present
-unfoldable pub noLevels : LcdVoltages
-noLevels = record {
-  pump = Level.Absent;
-  target = 0;
-  v0 = Level.Absent;
-  v1 = Level.Absent;
-  v2 = Level.Absent;
-  v3 = Level.Absent;
-  v4 = Level.Absent;
-}
+-- 'Session program': the frame, duty × PWM of the scan shown; 0 where the glass is undriven
+unfoldable pub quantaOf : Scan → ℕ
+quantaOf x = x .frame .duty * x .pwm
+
+unfoldable pub frameAt : Scan → Settings → Conditions → Time → ℕ
+frameAt x s c now = cond (driven c) (quantaOf (countTo x s now)) 0
 
 -- the undriven drive, which a refused call gives
 unfoldable pub off : LcdDrive
-off = unselected noLevels false
+off = unselected supplies.off false
 
-unfoldable pub driveIf : Check → LcdDrive → Driven
-driveIf Check.Passed d = record { check = Check.Passed; drive = d }
-driveIf (Check.Refused why) d = record { check = Check.Refused why; drive = off }
+-- the answer: the number of the refusal, the drive and the frame
+abbrev pub answeredDrive : Driven → Option ℕ × (LcdDrive × ℕ)
+answeredDrive r = (refused (r .check), (r .drive, r .frame))
 
--- the call, with its checks in the table's order; both groups of settings have number 3
-unfoldable pub driveScan : Scan → Settings → analog.Settings → Conditions → Time → (ram icons : List ℕ) → Driven
+-- the call; both groups of settings have number 3
+unfoldable pub driveScan : Scan → Settings → analog.Settings → Conditions → Time → (ram icons : List ℕ) → Option ℕ × (LcdDrive × ℕ)
 driveScan x s a c now ram icons =
-    driveIf (checkCall (validSettings s && analogs.validSettings a) x now ram icons)
-    (driveAt s x (voltages a (c .supply)) c now ram icons)
+    changed (checkLent x (validSettings s && analogs.validSettings a) now ram icons)
+    (driveAt x s (voltages a (c .supply)) c now ram icons, frameAt x s c now)
+    (off, 0)
 
 -- an electrode's microvolts, or none
 abbrev pub microvolts : Electrode → Option ℕ

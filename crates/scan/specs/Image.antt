@@ -1,14 +1,14 @@
 -- Document 01, 'Drive, electrodes, image': the gray image of the glass, row after row, and 'Where a call is turned down' for the
 -- call that gives it.
 use Prim.Native.Nat.{ℕ, zero, suc, _+_, _-_, _*_, _/_, _%_}
-use mathlib.Core.Bool.{Bool, cond, not, _&&_}
+use mathlib.Core.Bool.{Bool, cond, _&&_}
 use mathlib.Core.List.{List, [], _∷_, _++_}
 use lib.ListN.{length}
 use lib.Dec.{ltb, eqb}
+use Rattle.checks.specs.Checks.{unlessRefused}
 use Rattle.scan.specs.declared.settings.Settings.{Settings}
-use Rattle.scan.specs.declared.state.Check.{Check}
-use Rattle.scan.specs.Settings.{pwmOf, frcCountOf, validSettings}
-use Rattle.scan.specs.State.{refusal, memoryOk}
+use Rattle.scan.specs.Settings.{pwmOf, frcCountOf}
+use Rattle.scan.specs.Check.{checkImage}
 use Rattle.scan.specs.Shade.{shadeOf, pageOf, pulseWidth}
 
 -- f 0, f 1, .., f (n − 1)
@@ -22,12 +22,12 @@ rowsUpTo f zero = []
 rowsUpTo f (suc n) = rowsUpTo f n ++ f n
 
 -- the image is all 0 if undriven or with oscillator control bit 0
-unfoldable pub litBy : Bool → Settings → Bool
-litBy driven s = driven && eqb (s .«oscillator_control» % 2) 0
+unfoldable pub litBy : Settings → (driven : Bool) → Bool
+litBy s driven = driven && eqb (s .«oscillator_control» % 2) 0
 
 -- P = PWM × FRC count, of the present settings
-abbrev pub period : Settings → ℕ
-period s = pwmOf (s .«gray_mode») * frcCountOf (s .«gray_mode»)
+abbrev pub cycleOf : Settings → ℕ
+cycleOf s = pwmOf (s .«gray_mode») * frcCountOf (s .«gray_mode»)
 
 -- a shade's widths summed over the first phases
 unfoldable pub widths : Settings → (shade phases : ℕ) → ℕ
@@ -36,11 +36,7 @@ widths s shade (suc phases) = widths s shade phases + pulseWidth s shade phases 
 
 -- floor((255 × its widths summed over the phases + floor(P/2)) / P)
 unfoldable pub levelOf : Settings → (shade : ℕ) → ℕ
-levelOf s shade = (255 * widths s shade (frcCountOf (s .«gray_mode»)) + period s / 2) / period s
-
--- the levels of the four shades
-unfoldable pub levelsOf : Settings → List ℕ
-levelsOf s = levelOf s 0 ∷ levelOf s 1 ∷ levelOf s 2 ∷ levelOf s 3 ∷ []
+levelOf s shade = (255 * widths s shade (frcCountOf (s .«gray_mode»)) + cycleOf s / 2) / cycleOf s
 
 -- glass row y is common 32 + y, reversed 95 − y
 abbrev pub glassCommon : Bool → ℕ → ℕ
@@ -55,42 +51,25 @@ unfoldable pub ramRowOf : Settings → (line : ℕ) → ℕ
 ramRowOf s line = (line + s .«start_line») % 128
 
 -- the level at a segment, of the row that stands at `bit` in the 256 bytes of a page
-unfoldable pub levelAt : Settings → List ℕ → (bit segment : ℕ) → ℕ
-levelAt s page bit segment = levelOf s (shadeOf s page bit segment)
+unfoldable pub pageLevel : Settings → (page : List ℕ) → (bit segment : ℕ) → ℕ
+pageLevel s page bit segment = levelOf s (shadeOf s page bit segment)
 
 -- the level at a segment of a row of RAM
 abbrev pub ramLevel : Settings → (ram : List ℕ) → (row segment : ℕ) → ℕ
-ramLevel s ram row segment = levelAt s (pageOf ram (row / 8)) (row % 8) segment
+ramLevel s ram row segment = pageLevel s (pageOf ram (row / 8)) (row % 8) segment
 
 -- from duty up it is 0
-unfoldable pub pixel : Bool → Settings → (ram : List ℕ) → (y x : ℕ) → ℕ
-pixel lit s ram y x = cond (lit && ltb (lineOf s y) (s .duty)) (ramLevel s ram (ramRowOf s (lineOf s y)) x) 0
-
--- a pixel that shows nothing
-abbrev pub dark : (x : ℕ) → ℕ
-dark x = 0
+unfoldable pub pixel : Settings → (lit : Bool) → (ram : List ℕ) → (y x : ℕ) → ℕ
+pixel s lit ram y x = cond (lit && ltb (lineOf s y) (s .duty)) (ramLevel s ram (ramRowOf s (lineOf s y)) x) 0
 
 -- 96 bytes, one for each segment of the glass
-unfoldable pub imageRow : Bool → Settings → (ram : List ℕ) → (y : ℕ) → List ℕ
-imageRow lit s ram y = upTo (pixel lit s ram y) 96
+unfoldable pub imageRow : Settings → (lit : Bool) → (ram : List ℕ) → (y : ℕ) → List ℕ
+imageRow s lit ram y = upTo (pixel s lit ram y) 96
 
 -- 6,144 bytes, the 64 glass rows in order
-unfoldable pub image : (driven : Bool) → Settings → (ram : List ℕ) → List ℕ
-image driven s ram = rowsUpTo (imageRow (litBy driven s) s ram) 64
+unfoldable pub image : Settings → (driven : Bool) → (ram : List ℕ) → List ℕ
+image s driven ram = rowsUpTo (imageRow s (litBy s driven) ram) 64
 
--- numbers 2, 8 and 3, in the table's order
-unfoldable pub checkImage : Settings → (ram icons image : List ℕ) → Check
-checkImage s ram icons image =
-    cond (not (memoryOk ram icons)) (Check.Refused (refusal 2))
-    (cond (not (eqb (length image) 6144)) (Check.Refused (refusal 8))
-    (cond (not (validSettings s)) (Check.Refused (refusal 3))
-    Check.Passed))
-
--- where a call is turned down no lent byte changes
-abbrev pub written : Check → (old new : List ℕ) → List ℕ
-written Check.Passed old new = new
-written (Check.Refused why) old new = old
-
--- what the call leaves in the lent image
-unfoldable pub rendered : (driven : Bool) → Settings → (ram icons before : List ℕ) → List ℕ
-rendered driven s ram icons before = written (checkImage s ram icons before) before (image driven s ram)
+-- what the call leaves in the lent image: where it is turned down no lent byte changes
+unfoldable pub rendered : Settings → (driven : Bool) → (ram icons before : List ℕ) → List ℕ
+rendered s driven ram icons before = unlessRefused (checkImage s ram icons (length before)) (image s driven ram) before

@@ -1,102 +1,84 @@
--- Document 01, 'Scan': what a byte or a warm rise does to the scan besides counting, and a scan that stops. The checks of
--- a call that takes a moment and lent memory.
+-- Document 01, 'Scan': what a byte, a warm rise or a fall does to the scan. A byte makes two calls: before it acts the scan is
+-- counted and its latch kept where the byte could alter it; after it the inversion is cleared, the scan begun, its clock
+-- started or dropped. A warm rise makes the second of them, a fall counts and drops the clock.
 use Prim.Native.Nat.{ℕ, _%_}
-use mathlib.Core.Bool.{Bool, true, false, cond, not, _&&_}
+use mathlib.Core.Bool.{Bool, true, false, cond}
 use mathlib.Core.List.{List, [], _∷_}
+use mathlib.Core.Option.{Option}
 use lib.Dec.{eqb}
+use Rattle.checks.specs.Checks.{changed}
 use Rattle.clock.specs.declared.time.Time.{Time}
-use Rattle.clock.specs.Time.{inRange}
-use Rattle.clock.specs.Clock.{started}
+use Rattle.clock.specs.Edges.{started}
 use Rattle.scan.specs.declared.settings.Settings.{Settings}
 use Rattle.scan.specs.declared.state.Scan.{Scan}
 use Rattle.scan.specs.declared.state.ScanClock.{ScanClock}
-use Rattle.scan.specs.declared.state.Check.{Check}
-use Rattle.scan.specs.declared.state.Changed.{Changed}
-use Rattle.scan.specs.Settings.{pwmOf, frcCountOf, rowsOf, rateOf, validSettings}
-use Rattle.scan.specs.State.{refusal, rows, memoryOk, checkScan, withClock}
-use Rattle.scan.specs.Latch.{withLatch, retainIf}
+use Rattle.scan.specs.declared.state.Ticking.{Ticking}
+use Rattle.scan.specs.declared.state.Inversion.{Inversion}
+use Rattle.scan.specs.declared.latch.DataPage.{DataPage}
+use Rattle.scan.specs.declared.run.Running.{Running}
+use Rattle.scan.specs.Settings.{pwmOf, frameOf, rowsIn, rateOf}
+use Rattle.scan.specs.State.{rows, withTicking, withInversion}
+use Rattle.scan.specs.Check.{validSettings, checkMoment, checkLent}
+use Rattle.scan.specs.Count.{countTo}
+use Rattle.scan.specs.Latch.{keptLatch, retained}
+
+-- what a byte does to the scan, by whether it ran before and runs after
+abbrev pub runningAfter : (was runs : Bool) → Running
+runningAfter was runs = cond runs (cond was Running.Continues Running.Begins) Running.Stands
+
+-- an interval and count of 0; the polarity stays
+abbrev pub noLines : Inversion → Inversion
+noLines i = record { lines = 0; count = 0; inverted = i .inverted }
 
 -- a controller inversion of 0 clears the scan's interval and count immediately
-unfoldable pub cleared : Settings → Scan → Scan
-cleared s x = record {
-  clock = x .clock;
-  rate = x .rate;
-  duty = x .duty;
-  icon = x .icon;
-  «initial_com» = x .«initial_com»;
-  «common_reverse» = x .«common_reverse»;
-  «start_line» = x .«start_line»;
-  pwm = x .pwm;
-  «frc_count» = x .«frc_count»;
-  row = x .row;
-  step = x .step;
-  frc = x .frc;
-  «inversion_lines» = cond (eqb (s .«inversion_lines») 0) 0 (x .«inversion_lines»);
-  «inversion_count» = cond (eqb (s .«inversion_lines») 0) 0 (x .«inversion_count»);
-  inverted = x .inverted;
-  segments = x .segments;
-  latched = x .latched;
-}
+unfoldable pub cleared : Scan → Settings → Scan
+cleared x s = withInversion x (cond (eqb (s .«inversion_lines») 0) (noLines (x .inversion)) (x .inversion))
 
 -- every setting taken; row, step, phase, count and polarity 0. The clock is missing, as in the Rust's `Scan::default`
 unfoldable pub taken : Settings → Scan
 taken s = record {
-  clock = ScanClock.Stopped;
-  rate = rateOf s (rowsOf (s .duty) (s .«icon_enabled»));
-  duty = s .duty;
-  icon = s .«icon_enabled»;
-  «initial_com» = s .«initial_com»;
-  «common_reverse» = s .«common_reverse»;
-  «start_line» = s .«start_line»;
+  ticking = record { clock = ScanClock.Stopped; rate = rateOf s (rowsIn (frameOf s)) };
+  latch = record { segments = 0 ∷ 0 ∷ []; latched = true };
+  frame = frameOf s;
   pwm = pwmOf (s .«gray_mode»);
-  «frc_count» = frcCountOf (s .«gray_mode»);
   row = 0;
   step = 0;
   frc = 0;
-  «inversion_lines» = s .«inversion_lines»;
-  «inversion_count» = 0;
-  inverted = false;
-  segments = 0 ∷ 0 ∷ [];
-  latched = true;
+  inversion = record { lines = s .«inversion_lines»; count = 0; inverted = false };
 }
 
 -- the scan that a byte makes run: it takes every setting and latches
 unfoldable pub begun : Settings → (ram icons : List ℕ) → Scan
-begun s ram icons = withLatch s (taken s) ram icons
+begun s ram icons = keptLatch (taken s) s ram icons
 
 -- a scan whose clock is dropped; the counters stay
 unfoldable pub stopped : Scan → Scan
-stopped x = withClock x ScanClock.Stopped (x .rate)
+stopped x = withTicking x (record { clock = ScanClock.Stopped; rate = x .ticking .rate })
 
 -- a missing clock starts now, and the scan takes the rate of its rows and present settings
-unfoldable pub clockedFrom : Settings → Scan → Time → ScanClock → Scan
-clockedFrom s x now (ScanClock.Running c) = x
-clockedFrom s x now ScanClock.Stopped = withClock x (ScanClock.Running (started now (rateOf s (rows x)))) (rateOf s (rows x))
+unfoldable pub startedIf : ScanClock → Scan → Settings → Time → Scan
+startedIf (ScanClock.Running c) x s now = x
+startedIf ScanClock.Stopped x s now =
+    withTicking x (record { clock = ScanClock.Running (started now (rateOf s (rows x))); rate = rateOf s (rows x) })
 
-unfoldable pub clocked : Settings → Scan → Time → Bool → Scan
-clocked s x now ticks = cond ticks (clockedFrom s x now (x .clock)) (stopped x)
+-- the clock of a scan that runs: dropped with oscillator control bit 0
+unfoldable pub clocked : Scan → Settings → Time → Scan
+clocked x s now = cond (eqb (s .«oscillator_control» % 2) 0) (startedIf (x .ticking .clock) x s now) (stopped x)
 
--- the scan after a byte, before its clock: begun where the byte makes it run, else with its inversion cleared
-unfoldable pub settled : Settings → Scan → (starts : Bool) → (ram icons : List ℕ) → Scan
-settled s x starts ram icons = cond starts (begun s ram icons) (cleared s x)
-
--- the clock ticks where the scan runs without oscillator control bit 0
-unfoldable pub updated : Settings → Scan → Time → (wasRunning running : Bool) → (ram icons : List ℕ) → Scan
-updated s x now wasRunning running ram icons =
-    clocked s (settled s x (running && not wasRunning) ram icons) now (running && eqb (s .«oscillator_control» % 2) 0)
-
--- document 01, 'Where a call is turned down': lent memory, time, settings, scan and clock, in the table's order
-unfoldable pub checkCall : (settingsOk : Bool) → Scan → Time → (ram icons : List ℕ) → Check
-checkCall settingsOk x now ram icons =
-    cond (not (memoryOk ram icons)) (Check.Refused (refusal 2))
-    (cond (not (inRange now)) (Check.Refused (refusal 1))
-    (cond (not settingsOk) (Check.Refused (refusal 3))
-    (checkScan x)))
+-- the scan after a byte or a warm rise
+unfoldable pub updated : Scan → Settings → Time → Running → (ram icons : List ℕ) → Scan
+updated x s now Running.Begins ram icons = clocked (begun s ram icons) s now
+updated x s now Running.Continues ram icons = clocked (cleared x s) s now
+updated x s now Running.Stands ram icons = stopped (cleared x s)
 
 -- the calls; a refusal gives back the scan given
-unfoldable pub updateClock : Settings → Scan → Time → (wasRunning running : Bool) → (ram icons : List ℕ) → Changed
-updateClock s x now wasRunning running ram icons =
-    retainIf (checkCall (validSettings s) x now ram icons) (updated s x now wasRunning running ram icons) x
+unfoldable pub beforeByte : Scan → Settings → Time → DataPage → (ram icons : List ℕ) → Option ℕ × Scan
+beforeByte x s now page ram icons =
+    changed (checkLent x (validSettings s) now ram icons) (retained (countTo x s now) s page ram icons) x
 
-unfoldable pub stopScan : Scan → Changed
-stopScan x = retainIf (checkScan x) (stopped x) x
+unfoldable pub afterByte : Scan → Settings → Time → Running → (ram icons : List ℕ) → Option ℕ × Scan
+afterByte x s now running ram icons =
+    changed (checkLent x (validSettings s) now ram icons) (updated x s now running ram icons) x
+
+unfoldable pub fallScan : Scan → Settings → Time → Option ℕ × Scan
+fallScan x s now = changed (checkMoment x (validSettings s) now) (stopped (countTo x s now)) x

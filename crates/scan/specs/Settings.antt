@@ -1,13 +1,13 @@
--- Document 01, 'Scan': what the settings say. PWM and FRC count by gray mode, rows, the rate, and the
--- conditions of `validate` on these registers (number 3).
+-- Document 01, 'Scan': what the settings say. PWM and FRC count by gray mode, rows, the rate, and what a frame end takes.
 use Prim.Native.Nat.{ℕ, _+_, _/_, _%_}
-use mathlib.Core.Bool.{Bool, cond, _&&_, _||_}
+use mathlib.Core.Bool.{Bool, cond}
 use mathlib.Core.List.{List, [], _∷_}
 use lib.ListN.{getD}
-use lib.Dec.{leb, ltb, eqb}
+use lib.Dec.{eqb}
 use Rattle.clock.specs.declared.rate.Rate.{Rate}
 use Rattle.clock.specs.Rate.{lcdRate}
 use Rattle.scan.specs.declared.settings.Settings.{Settings}
+use Rattle.scan.specs.declared.settings.Frame.{Frame}
 
 -- by gray mode's two low bits
 abbrev pub pwmWidths : List ℕ
@@ -20,25 +20,24 @@ pwmOf gray = getD pwmWidths (gray % 4) 0
 unfoldable pub frcCountOf : ℕ → ℕ
 frcCountOf gray = cond (eqb (gray / 4 % 2) 0) 4 3
 
+-- duty, icons, first common, common direction, start line and FRC count
+unfoldable pub frameOf : Settings → Frame
+frameOf s = record {
+  duty = s .duty;
+  icon = s .«icon_enabled»;
+  «initial_com» = s .«initial_com»;
+  «common_reverse» = s .«common_reverse»;
+  «start_line» = s .«start_line»;
+  «frc_count» = frcCountOf (s .«gray_mode»);
+}
+
 -- duty, plus one with icons on
 abbrev pub rowsOf : ℕ → Bool → ℕ
 rowsOf duty icon = cond icon (duty + 1) duty
 
+unfoldable pub rowsIn : Frame → ℕ
+rowsIn f = rowsOf (f .duty) (f .icon)
+
 -- the rate of the settings and a number of rows
 unfoldable pub rateOf : Settings → ℕ → Rate
 rateOf s rows = lcdRate (s .«oscillator_control») (s .«oscillator_frequency») rows
-
--- inversion lines: 0, or 3 to 33
-unfoldable pub linesOk : ℕ → Bool
-linesOk n = eqb n 0 || (leb 3 n && leb n 33)
-
-unfoldable pub validSettings : Settings → Bool
-validSettings s =
-    ltb (s .«start_line») 128
-    && (ltb (s .«initial_com») 128
-    && (leb 16 (s .duty)
-    && (leb (s .duty) 128
-    && (linesOk (s .«inversion_lines»)
-    && (leb (s .«gray_mode») 7
-    && (leb (s .«oscillator_control») 3
-    && leb (s .«oscillator_frequency») 31))))))

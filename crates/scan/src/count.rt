@@ -1,25 +1,30 @@
-// Counting the scan: n quanta at once by division and remainder, the piece rule, and the scan
-// counted to a moment. Document 01, 'Scan'.
+// Counting the scan to a moment, by the piece rule. Document 01, 'Scan'.
 ghost use mathlib.Core.Path.{_≡_};
-ghost use mathlib.Core.Bool.{true, false, cond, Bool·beq};
-ghost use Prim.Native.Nat.{_+_, _^_, _<_, _≤_};
+ghost use mathlib.Core.Bool.{true, false, cond};
+ghost use mathlib.Core.Option.{none};
+ghost use Prim.Native.Nat.{_+_, _-_, _*_, _≤_};
 ghost use Rattle.clock.specs.Time.{inRange};
 ghost use Rattle.clock.specs.Rate.{sameRate, isLcd};
-ghost use Rattle.clock.specs.Clock.{started};
-ghost use Rattle.scan.specs.Settings.{rowsOf, rateOf, validSettings};
-ghost use Rattle.scan.specs.State.{checkScan, withClock};
-ghost use Rattle.scan.specs.Count.{rowSame, frameSame, pieces, countTo, countScan};
-ghost use Rattle.scan.specs.Closed.{flipped, flipsIn, countIn, countTaken, closed, limitIn, pieceOf};
+ghost use Rattle.clock.specs.Edges.{started};
+ghost use Rattle.scan.specs.State.{rows};
+ghost use Rattle.scan.specs.Check.{validSettings, checkScan};
+ghost use Rattle.scan.specs.Count.{rowSame, sameFrame, frameSame, rateSame, countTo, pieces, answeredCount, countScan};
+ghost use Rattle.scan.specs.Closed.{limitIn, pieceOf};
+use crate::check::Check;
+use crate::check::check_moment;
+use crate::closed::advanced;
+use crate::closed::wide;
+use crate::settings::Frame;
 use crate::settings::Settings;
-use crate::settings::frc_count_of;
+use crate::settings::frame_of;
 use crate::settings::pwm_of;
-use crate::settings::rows_of;
-use crate::state::Check;
-use crate::state::Refusal;
+use crate::settings::rate_of;
+use crate::settings::rows_in;
 use crate::state::Scan;
 use crate::state::ScanClock;
+use crate::state::start_clock;
+use crate::state::with_ticking;
 use clock::Clock;
-use clock::Made;
 use clock::Passed;
 use clock::Rate;
 use clock::Time;
@@ -39,163 +44,71 @@ struct Piece {
     scan: Scan,
 }
 
-fn wide(x: u8) -> u64
-    ensures { λ r. ⌜ r ≡ x ⌝ }
+fn row_same(scan: Scan, settings: Settings) -> bool
+    ensures { λ r. ⌜ r ≡ rowSame scan settings ⌝ }
 {
-    x as u64
+    let inversion = scan.inversion;
+    (pwm_of(settings.gray_mode) == scan.pwm) & (settings.inversion_lines == inversion.lines)
 }
 
-// b after n flips.
-fn flip(b: bool, n: u64) -> bool
-    ensures { λ r. ⌜ r ≡ flipped b n ⌝ }
+fn same_frame(a: Frame, b: Frame) -> bool
+    ensures { λ r. ⌜ r ≡ sameFrame a b ⌝ }
 {
-    if n % 2 == 0 { b } else { !b }
+    (a.duty == b.duty)
+        & (a.icon == b.icon)
+        & (a.initial_com == b.initial_com)
+        & (a.common_reverse == b.common_reverse)
+        & (a.start_line == b.start_line)
+        & (a.frc_count == b.frc_count)
 }
 
-// How often e ended rows and f ended frames flip.
-fn flips_in(lines: u8, count: u8, e: u64, f: u64) -> u64
-    requires { ⌜ e < 2 ^ 51 ⌝ }
-    ensures { λ r. ⌜ r ≡ flipsIn lines count e f ⌝ }
+fn frame_same(scan: Scan, settings: Settings) -> bool
+    ensures { λ r. ⌜ r ≡ frameSame scan settings ⌝ }
 {
-    if lines == 0 {
-        return f;
-    }
-    (wide(count) + e) / wide(lines)
+    let frame = scan.frame;
+    same_frame(frame_of(settings), frame)
 }
 
-// The count of rows after e ended rows.
-fn count_in(lines: u8, count: u8, e: u64) -> u8
-    requires { ⌜ e < 2 ^ 51 ⌝ }
-    ensures { λ r. ⌜ r ≡ countIn lines count e ⌝ }
+fn rate_same(scan: Scan, settings: Settings) -> bool
+    ensures { λ r. ⌜ r ≡ rateSame scan settings ⌝ }
 {
-    if lines == 0 {
-        return count;
-    }
-    ((wide(count) + e) % wide(lines)) as u8
+    let ticking = scan.ticking;
+    let rate = ticking.rate;
+    let frame = scan.frame;
+    rate.eq(rate_of(settings, frame))
 }
 
-// The same where the last row's end takes the lines `taken`.
-fn count_taken(lines: u8, taken: u8, count: u8, e: u64) -> u8
-    requires { ⌜ e < 2 ^ 51 ⌝ }
-    ensures { λ r. ⌜ r ≡ countTaken lines taken count e ⌝ }
+// Quanta up to the end of the row.
+fn row_remaining(scan: Scan) -> u64
+    requires { ⌜ checkScan scan ≡ none ⌝ }
+    ensures { λ r. ⌜ r ≡ scan .pwm - scan .step ⌝ }
 {
-    if lines == taken {
-        return count_in(lines, count, e);
-    }
-    0
+    wide(scan.pwm - scan.step)
 }
 
-// The counters n quanta later; clock and rate stay.
-fn advanced(scan: Scan, settings: Settings, n: u64) -> Scan
-    requires { ⌜ checkScan scan ≡ Check.Passed ⌝ }
-    requires { ⌜ n ≤ 2 ^ 50 ⌝ }
-    ensures { λ r. ⌜ r ≡ closed settings scan (scan .clock) (scan .rate) false n ⌝ }
+// Quanta up to the end of the frame.
+fn frame_remaining(scan: Scan) -> u64
+    requires { ⌜ checkScan scan ≡ none ⌝ }
+    ensures { λ r. ⌜ r ≡ (rows scan - scan .row) * scan .pwm - scan .step ⌝ }
 {
-    let total = wide(scan.step) + n;
-    let pwm = wide(scan.pwm);
-    let ended = total / pwm;
-    let step = (total % pwm) as u8;
-    if ended == 0 {
-        let mut next = scan;
-        next.step = step;
-        next.latched = false;
-        return next;
-    }
-    let passed = wide(scan.row) + ended;
-    let rows = rows_of(scan.duty, scan.icon) as u64;
-    let frames = passed / rows;
-    let row = (passed % rows) as u8;
-    let flips = flips_in(scan.inversion_lines, scan.inversion_count, ended, frames);
-    let mut next = scan;
-    next.pwm = pwm_of(settings.gray_mode);
-    next.row = row;
-    next.step = step;
-    next.inversion_lines = settings.inversion_lines;
-    next.inversion_count = count_taken(
-        scan.inversion_lines,
-        settings.inversion_lines,
-        scan.inversion_count,
-        ended,
-    );
-    next.inverted = flip(scan.inverted, flips);
-    next.latched = false;
-    if frames == 0 {
-        return next;
-    }
-    let frc_count = frc_count_of(settings.gray_mode);
-    next.duty = settings.duty;
-    next.icon = settings.icon_enabled;
-    next.initial_com = settings.initial_com;
-    next.common_reverse = settings.common_reverse;
-    next.start_line = settings.start_line;
-    next.frc_count = frc_count;
-    next.frc = ((wide(scan.frc) + frames) % wide(frc_count)) as u8;
-    next
-}
-
-// The rate of the settings and the rows of duty and icons.
-pub(crate) fn rate_of(settings: Settings, duty: u8, icon: bool) -> Rate
-    ensures { λ r. ⌜ r ≡ rateOf settings (rowsOf duty icon) ⌝ }
-{
-    Rate::lcd(
-        settings.oscillator_control,
-        settings.oscillator_frequency,
-        rows_of(duty, icon),
-    )
-}
-
-fn row_same(settings: Settings, scan: Scan) -> bool
-    ensures { λ r. ⌜ r ≡ rowSame settings scan ⌝ }
-{
-    if pwm_of(settings.gray_mode) == scan.pwm {
-        return settings.inversion_lines == scan.inversion_lines;
-    }
-    false
-}
-
-// Two flags are the same.
-fn same(a: bool, b: bool) -> bool
-    ensures { λ r. ⌜ r ≡ Bool·beq a b ⌝ }
-{
-    if a { b } else { !b }
-}
-
-fn frame_same(settings: Settings, scan: Scan) -> bool
-    ensures { λ r. ⌜ r ≡ frameSame settings scan ⌝ }
-{
-    if settings.duty != scan.duty {
-        return false;
-    }
-    if !same(settings.icon_enabled, scan.icon) {
-        return false;
-    }
-    if settings.initial_com != scan.initial_com {
-        return false;
-    }
-    if !same(settings.common_reverse, scan.common_reverse) {
-        return false;
-    }
-    if settings.start_line != scan.start_line {
-        return false;
-    }
-    frc_count_of(settings.gray_mode) == scan.frc_count
+    let frame = scan.frame;
+    let rows = rows_in(frame) as u64;
+    (rows - wide(scan.row)) * wide(scan.pwm) - wide(scan.step)
 }
 
 // How many quanta the piece rule takes at once.
-fn limit_in(settings: Settings, scan: Scan) -> u64
-    requires { ⌜ checkScan scan ≡ Check.Passed ⌝ }
-    ensures { λ r. ⌜ r ≡ limitIn settings scan ⌝ }
+fn limit_in(scan: Scan, settings: Settings) -> u64
+    requires { ⌜ checkScan scan ≡ none ⌝ }
+    ensures { λ r. ⌜ r ≡ limitIn scan settings ⌝ }
 {
-    let rate = scan.rate;
-    if !rate.eq(rate_of(settings, scan.duty, scan.icon)) {
+    if !rate_same(scan, settings) {
         return 1;
     }
-    if !row_same(settings, scan) {
-        return wide(scan.pwm - scan.step);
+    if !row_same(scan, settings) {
+        return row_remaining(scan);
     }
-    if !frame_same(settings, scan) {
-        let rows = rows_of(scan.duty, scan.icon) as u64;
-        return (rows - wide(scan.row)) * wide(scan.pwm) - wide(scan.step);
+    if !frame_same(scan, settings) {
+        return frame_remaining(scan);
     }
     u64::MAX
 }
@@ -210,36 +123,7 @@ fn next_clock(moved: Clock, rate: Rate, new: Rate) -> ScanClock
         return ScanClock::Running(moved);
     }
     let at = moved.at;
-    let made = Clock::new(at, new);
-    let Made::Clock(clock) = made else {
-        return ScanClock::Stopped;
-    };
-    ScanClock::Running(clock)
-}
-
-pub(crate) fn with_clock(scan: Scan, clock: ScanClock, rate: Rate) -> Scan
-    ensures { λ r. ⌜ r ≡ withClock scan clock rate ⌝ }
-{
-    let segments = scan.segments;
-    Scan {
-        clock: clock,
-        rate: rate,
-        duty: scan.duty,
-        icon: scan.icon,
-        initial_com: scan.initial_com,
-        common_reverse: scan.common_reverse,
-        start_line: scan.start_line,
-        pwm: scan.pwm,
-        frc_count: scan.frc_count,
-        row: scan.row,
-        step: scan.step,
-        frc: scan.frc,
-        inversion_lines: scan.inversion_lines,
-        inversion_count: scan.inversion_count,
-        inverted: scan.inverted,
-        segments: segments,
-        latched: scan.latched,
-    }
+    start_clock(at, new)
 }
 
 // A scan with no edge due.
@@ -257,15 +141,16 @@ fn none_due(scan: Scan) -> Piece
 fn piece_of(scan: Scan, settings: Settings, now: Time) -> Piece
     requires { ⌜ inRange now ≡ true ⌝ }
     requires { ⌜ validSettings settings ≡ true ⌝ }
-    requires { ⌜ checkScan scan ≡ Check.Passed ⌝ }
-    ensures { λ r. ⌜ r ≡ pieceOf settings scan now ⌝ }
+    requires { ⌜ checkScan scan ≡ none ⌝ }
+    ensures { λ r. ⌜ r ≡ pieceOf scan settings now ⌝ }
 {
-    let clock = scan.clock;
+    let ticking = scan.ticking;
+    let clock = ticking.clock;
     let ScanClock::Running(running) = clock else {
         return none_due(scan);
     };
-    let rate = scan.rate;
-    let limit = limit_in(settings, scan);
+    let rate = ticking.rate;
+    let limit = limit_in(scan, settings);
     let passed = running.passed_to(rate, now, limit);
     let Passed::Edges {
         count,
@@ -278,37 +163,13 @@ fn piece_of(scan: Scan, settings: Settings, now: Time) -> Piece
         return none_due(scan);
     }
     let next = advanced(scan, settings, count);
-    let new = rate_of(settings, next.duty, next.icon);
+    let frame = next.frame;
+    let new = rate_of(settings, frame);
     Piece {
         counted: true,
         last: count < limit,
-        scan: with_clock(next, next_clock(moved, rate, new), new),
+        scan: with_ticking(next, next_clock(moved, rate, new), new),
     }
-}
-
-// The scan counted by at most four uses of the piece rule.
-pub(crate) fn in_pieces(scan: Scan, settings: Settings, now: Time) -> Counted
-    requires { ⌜ inRange now ≡ true ⌝ }
-    requires { ⌜ validSettings settings ≡ true ⌝ }
-    requires { ⌜ checkScan scan ≡ Check.Passed ⌝ }
-    ensures { λ r. ⌜ r ≡ record { check = Check.Passed; scan = countTo settings scan now; pieces = pieces settings scan now } ⌝ }
-{
-    let first = piece_of(scan, settings, now);
-    if first.last {
-        return done(first, 0);
-    }
-    let a = first.scan;
-    let second = piece_of(a, settings, now);
-    if second.last {
-        return done(second, 1);
-    }
-    let b = second.scan;
-    let third = piece_of(b, settings, now);
-    if third.last {
-        return done(third, 2);
-    }
-    let c = third.scan;
-    done(piece_of(c, settings, now), 3)
 }
 
 // The last piece, after as many before it.
@@ -331,31 +192,38 @@ fn done(last: Piece, before: u8) -> Counted
     }
 }
 
-fn turned_down(scan: Scan, why: Refusal) -> Counted
-    ensures { λ r. ⌜ r ≡ record { check = Check.Refused why; scan = scan; pieces = 0 } ⌝ }
+// The scan counted by at most four uses of the piece rule.
+pub(crate) fn in_pieces(scan: Scan, settings: Settings, now: Time) -> Counted
+    requires { ⌜ inRange now ≡ true ⌝ }
+    requires { ⌜ validSettings settings ≡ true ⌝ }
+    requires { ⌜ checkScan scan ≡ none ⌝ }
+    ensures { λ r. ⌜ r ≡ record { check = Check.Passed; scan = countTo scan settings now; pieces = pieces scan settings now } ⌝ }
 {
-    Counted {
-        check: Check::Refused(why),
-        scan: scan,
-        pieces: 0,
+    let mut from = scan;
+    let mut before: u8 = 0;
+    loop {
+        let piece = piece_of(from, settings, now);
+        if piece.last | (before == 3) {
+            return done(piece, before);
+        }
+        from = piece.scan;
+        before += 1;
     }
 }
 
 impl Scan {
     // The scan counted to now, and the pieces that took.
     pub fn count_to(self, settings: Settings, now: Time) -> Counted
-        ensures { λ r. ⌜ r ≡ countScan settings self now ⌝ }
+        ensures { λ r. ⌜ answeredCount r ≡ countScan self settings now ⌝ }
     {
-        if !now.in_range() {
-            return turned_down(self, Refusal::Time);
-        }
-        if !settings.valid() {
-            return turned_down(self, Refusal::Settings);
-        }
-        let check = self.check();
-        if let Check::Refused(why) = check {
-            return turned_down(self, why);
-        }
+        let check = check_moment(self, settings.valid(), now);
+        let Check::Passed = check else {
+            return Counted {
+                check: check,
+                scan: self,
+                pieces: 0,
+            };
+        };
         in_pieces(self, settings, now)
     }
 }

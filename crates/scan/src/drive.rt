@@ -1,18 +1,20 @@
 // What the controller drives the electrodes of the glass with at a moment, and the voltage of each
 // electrode. Document 01, 'Drive, electrodes, image'.
 ghost use mathlib.Core.Path.{_≡_};
-ghost use mathlib.Core.Bool.{true};
+ghost use mathlib.Core.Bool.{true, cond};
+ghost use mathlib.Core.Option.{none};
 ghost use Prim.Native.Nat.{_<_};
 ghost use lib.ListN.{length};
 ghost use Rattle.clock.specs.Time.{inRange};
-ghost use Rattle.scan.specs.Settings.{validSettings};
-ghost use Rattle.scan.specs.State.{checkScan};
-ghost use Rattle.scan.specs.Drive.{driven as drivenBy, grounded as groundedBy, commonOf, undriven as undrivenOf, driveOf, driveAt, off, driveScan, microvolts, levelMicrovolts, commonLevel, segmentLevel, activeIn, commonMicrovolts, segmentMicrovolts};
+ghost use Rattle.voltage.specs.Check as analogs;
+ghost use Rattle.voltage.specs.Voltage.{voltages};
+ghost use Rattle.scan.specs.Check.{validSettings, checkScan};
+ghost use Rattle.scan.specs.Drive.{runs as runsBy, driven as drivenBy, grounded as groundedBy, commonOf, undriven as undrivenOf, driveOf, driveAt, quantaOf, frameAt, off, answeredDrive, driveScan, microvolts, levelMicrovolts, commonLevel, segmentLevel, activeIn, commonMicrovolts, segmentMicrovolts};
+use crate::check::Check;
+use crate::check::check_lent;
 use crate::count::in_pieces;
-use crate::latch::segments;
-use crate::run::check_call;
+use crate::latch::shown;
 use crate::settings::Settings;
-use crate::state::Check;
 use crate::state::Scan;
 use clock::Time;
 use voltage::Answer;
@@ -43,10 +45,12 @@ pub struct LcdDrive {
     pub grounded: bool,
 }
 
-// The drive, or the refusal and the undriven drive.
+// The drive and the frame of the scan shown, in quanta (duty x PWM, 0 where undriven); or the refusal
+// and the undriven drive.
 pub struct Driven {
     pub check: Check,
     pub drive: LcdDrive,
+    pub frame: u16,
 }
 
 // The voltage of an electrode in microvolts; none where it has no level or there is no such
@@ -57,6 +61,14 @@ pub enum Electrode {
 }
 
 impl Conditions {
+    // Whether the scan runs.
+    pub fn runs(self) -> bool
+        ensures { λ r. ⌜ r ≡ runsBy self ⌝ }
+    {
+        let supply = self.supply;
+        self.oscillator_enabled & !supply.power_save
+    }
+
     pub fn driven(self) -> bool
         ensures { λ r. ⌜ r ≡ drivenBy self ⌝ }
     {
@@ -80,11 +92,12 @@ impl Conditions {
 fn common_of(scan: Scan) -> u8
     ensures { λ r. ⌜ r ≡ commonOf scan ⌝ }
 {
-    if scan.row == scan.duty {
+    let frame = scan.frame;
+    if scan.row == frame.duty {
         return 128;
     }
-    let common = (scan.initial_com % 128 + scan.row % 128) % 128;
-    if scan.common_reverse {
+    let common = (frame.initial_com % 128 + scan.row % 128) % 128;
+    if frame.common_reverse {
         return 127 - common;
     }
     common
@@ -101,59 +114,89 @@ fn undriven(conditions: Conditions, voltages: LcdVoltages) -> LcdDrive
 
 // The drive of a scan that is counted to the moment.
 fn drive_of(
-    settings: Settings,
     scan: Scan,
+    settings: Settings,
     voltages: LcdVoltages,
     ram: &[u8],
     icons: &[u8],
 ) -> LcdDrive
-    requires { ⌜ checkScan scan ≡ Check.Passed ⌝ }
+    requires { ⌜ checkScan scan ≡ none ⌝ }
     requires { ⌜ length (now ram) ≡ 4096 ⌝ }
     requires { ⌜ length (now icons) ≡ 256 ⌝ }
-    ensures { λ r. ⌜ r ≡ driveOf settings scan voltages (now (ram .entry)) (now (icons .entry)) ⌝ }
+    ensures { λ r. ⌜ r ≡ driveOf scan settings voltages (now (ram .entry)) (now (icons .entry)) ⌝ }
 {
-    let words = segments(settings, scan, ram, icons);
+    let words = shown(scan, settings, ram, icons);
+    let inversion = scan.inversion;
     LcdDrive {
         common: Common::Selected(common_of(scan)),
         segments: words,
-        inverted: scan.inverted,
+        inverted: inversion.inverted,
         voltages: voltages,
         grounded: false,
     }
 }
 
-fn drive_at(
-    settings: Settings,
+// The quanta in a frame of the scan.
+fn quanta_of(scan: Scan) -> u16
+    ensures { λ r. ⌜ r ≡ quantaOf scan ⌝ }
+{
+    let frame = scan.frame;
+    (frame.duty as u16) * (scan.pwm as u16)
+}
+
+// A refused drive is the undriven one.
+fn turned_down(check: Check) -> Driven
+    ensures { λ r. ⌜ r ≡ record { check = check; drive = off; frame = 0 } ⌝ }
+{
+    Driven {
+        check: check,
+        drive: LcdDrive::OFF,
+        frame: 0,
+    }
+}
+
+fn driven_at(
     scan: Scan,
+    settings: Settings,
     voltages: LcdVoltages,
     conditions: Conditions,
     moment: Time,
     ram: &[u8],
     icons: &[u8],
-) -> LcdDrive
+) -> Driven
     requires { ⌜ inRange moment ≡ true ⌝ }
     requires { ⌜ validSettings settings ≡ true ⌝ }
-    requires { ⌜ checkScan scan ≡ Check.Passed ⌝ }
+    requires { ⌜ checkScan scan ≡ none ⌝ }
     requires { ⌜ length (now ram) ≡ 4096 ⌝ }
     requires { ⌜ length (now icons) ≡ 256 ⌝ }
-    ensures { λ r. ⌜ r ≡ driveAt settings scan voltages conditions moment (now (ram .entry)) (now (icons .entry)) ⌝ }
+    ensures { λ r. ⌜ r ≡ record { check = Check.Passed; drive = driveAt scan settings voltages conditions moment (now (ram .entry)) (now (icons .entry)); frame = frameAt scan settings conditions moment } ⌝ }
 {
     if !conditions.driven() {
-        return undriven(conditions, voltages);
+        return Driven {
+            check: Check::Passed,
+            drive: undriven(conditions, voltages),
+            frame: 0,
+        };
     }
     let counted = in_pieces(scan, settings, moment);
     let latest = counted.scan;
-    drive_of(settings, latest, voltages, ram, icons)
+    Driven {
+        check: Check::Passed,
+        drive: drive_of(latest, settings, voltages, ram, icons),
+        frame: quanta_of(latest),
+    }
 }
 
-// A refused drive is the undriven one.
-fn turned_down(check: Check) -> Driven
-    ensures { λ r. ⌜ r ≡ record { check = check; drive = off } ⌝ }
+// The levels of settings that passed, which are not refused.
+fn levels_of(analog: voltage::Settings, supply: Supply) -> LcdVoltages
+    requires { ⌜ analogs.validSettings analog ≡ true ⌝ }
+    ensures { λ r. ⌜ r ≡ voltages analog supply ⌝ }
 {
-    Driven {
-        check: check,
-        drive: LcdDrive::OFF,
-    }
+    let answer = voltage::voltages(analog, supply);
+    let Answer::Voltages(levels) = answer else {
+        return LcdVoltages::OFF;
+    };
+    levels
 }
 
 // The drive at a moment. The scan itself is left where it was.
@@ -166,23 +209,16 @@ pub fn drive(
     ram: &[u8],
     icons: &[u8],
 ) -> Driven
-    ensures { λ r. ⌜ r ≡ driveScan scan settings analog conditions moment (now (ram .entry)) (now (icons .entry)) ⌝ }
+    ensures { λ r. ⌜ answeredDrive r ≡ driveScan scan settings analog conditions moment (now (ram .entry)) (now (icons .entry)) ⌝ }
 {
     let settings_ok = settings.valid() & analog.valid();
-    let check = check_call(settings_ok, scan, moment, ram, icons);
+    let check = check_lent(scan, settings_ok, moment, ram, icons);
     let Check::Passed = check else {
         return turned_down(check);
     };
     let supply = conditions.supply;
-    let answer = voltage::voltages(analog, supply);
-    // Settings that passed are not refused.
-    let Answer::Voltages(voltages) = answer else {
-        return turned_down(check);
-    };
-    Driven {
-        check: Check::Passed,
-        drive: drive_at(settings, scan, voltages, conditions, moment, ram, icons),
-    }
+    let levels = levels_of(analog, supply);
+    driven_at(scan, settings, levels, conditions, moment, ram, icons)
 }
 
 fn electrode_at(level: Level) -> Electrode
@@ -194,40 +230,36 @@ fn electrode_at(level: Level) -> Electrode
     Electrode::Microvolts(value)
 }
 
+// One of two levels.
+fn one_of(first: bool, a: Level, b: Level) -> Level
+    ensures { λ r. ⌜ levelMicrovolts r ≡ cond first (levelMicrovolts a) (levelMicrovolts b) ⌝ }
+{
+    if first {
+        return a;
+    }
+    b
+}
+
 fn common_level(voltages: LcdVoltages, selected: bool, inverted: bool) -> Electrode
     ensures { λ r. ⌜ microvolts r ≡ commonLevel voltages selected inverted ⌝ }
 {
-    if selected {
-        if inverted {
-            return Electrode::Microvolts(0);
-        }
-        let level = voltages.v0;
-        return electrode_at(level);
-    }
-    if inverted {
-        let level = voltages.v1;
-        return electrode_at(level);
-    }
-    let level = voltages.v4;
-    electrode_at(level)
+    let v0 = voltages.v0;
+    let v1 = voltages.v1;
+    let v4 = voltages.v4;
+    let on = one_of(inverted, Level::Microvolts(0), v0);
+    let off = one_of(inverted, v1, v4);
+    electrode_at(one_of(selected, on, off))
 }
 
 fn segment_level(voltages: LcdVoltages, active: bool, inverted: bool) -> Electrode
     ensures { λ r. ⌜ microvolts r ≡ segmentLevel voltages active inverted ⌝ }
 {
-    if active {
-        if inverted {
-            let level = voltages.v0;
-            return electrode_at(level);
-        }
-        return Electrode::Microvolts(0);
-    }
-    if inverted {
-        let level = voltages.v2;
-        return electrode_at(level);
-    }
-    let level = voltages.v3;
-    electrode_at(level)
+    let v0 = voltages.v0;
+    let v2 = voltages.v2;
+    let v3 = voltages.v3;
+    let on = one_of(inverted, v0, Level::Microvolts(0));
+    let off = one_of(inverted, v2, v3);
+    electrode_at(one_of(active, on, off))
 }
 
 // Whether a segment is active in the two words of a latch.

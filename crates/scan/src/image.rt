@@ -4,29 +4,27 @@ ghost use mathlib.Core.Path.{_≡_};
 ghost use mathlib.Core.Bool.{true};
 ghost use Prim.Native.Nat.{_<_};
 ghost use lib.ListN.{length};
-ghost use Rattle.scan.specs.Settings.{validSettings, frcCountOf};
-ghost use Rattle.scan.specs.Image.{litBy, period, widths, levelOf, levelsOf, glassCommon, lineOf, ramRowOf, levelAt, dark, upTo, imageRow, rowsUpTo, checkImage, rendered};
+ghost use Rattle.scan.specs.Settings.{frcCountOf};
+ghost use Rattle.scan.specs.Check.{refused, validSettings, checkImage};
+ghost use Rattle.scan.specs.Image.{litBy, cycleOf, widths, levelOf, glassCommon, lineOf, ramRowOf, pageLevel, upTo, imageRow, rowsUpTo, rendered};
+ghost use Rattle.scan.specs.Closed.{levelsOf, dark};
+use crate::check::Check;
+use crate::check::check_image;
 use crate::settings::Settings;
 use crate::settings::frc_count_of;
 use crate::settings::pwm_of;
 use crate::shade::pulse_width;
 use crate::shade::shade;
-use crate::state::Check;
-use crate::state::Refusal;
-use crate::state::memory_ok;
 
 pub const LCD_WIDTH: usize = 96;
 
 pub const LCD_HEIGHT: usize = 64;
 
 // Whether the glass shows anything.
-pub(crate) fn lit_by(driven: bool, settings: Settings) -> bool
-    ensures { λ r. ⌜ r ≡ litBy driven settings ⌝ }
+fn lit_by(settings: Settings, driven: bool) -> bool
+    ensures { λ r. ⌜ r ≡ litBy settings driven ⌝ }
 {
-    if driven {
-        return settings.oscillator_control % 2 == 0;
-    }
-    false
+    driven & (settings.oscillator_control % 2 == 0)
 }
 
 // A shade's widths, summed over the phases of the gray cycle.
@@ -46,8 +44,8 @@ fn width_sum(settings: Settings, shade: u8) -> u16
 }
 
 // The quanta of a row in a whole gray cycle.
-fn period_of(settings: Settings) -> u16
-    ensures { λ r. ⌜ r ≡ period settings ⌝ }
+fn cycle_of(settings: Settings) -> u16
+    ensures { λ r. ⌜ r ≡ cycleOf settings ⌝ }
 {
     let pwm = pwm_of(settings.gray_mode) as u16;
     let phases = frc_count_of(settings.gray_mode) as u16;
@@ -59,13 +57,13 @@ fn level_of(settings: Settings, shade: u8) -> u8
     requires { ⌜ shade < 4 ⌝ }
     ensures { λ r. ⌜ r ≡ levelOf settings shade ⌝ }
 {
-    let period = period_of(settings);
+    let cycle = cycle_of(settings);
     let sum = width_sum(settings, shade);
-    ((255 * sum + period / 2) / period) as u8
+    ((255 * sum + cycle / 2) / cycle) as u8
 }
 
 // The levels of the four shades: worked out once for all pixels.
-pub(crate) fn levels_of(settings: Settings) -> [u8; 4]
+fn levels_of(settings: Settings) -> [u8; 4]
     ensures { λ r. ⌜ r ≡ levelsOf settings ⌝ }
 {
     [
@@ -126,7 +124,7 @@ fn paint_page(settings: Settings, levels: [u8; 4], page: &[u8], bit: u8, row: &m
     requires { ⌜ length (now page) ≡ 256 ⌝ }
     requires { ⌜ bit < 8 ⌝ }
     requires { ⌜ length (now row) ≡ 96 ⌝ }
-    ensures { λ _. ⌜ now (row .exit) ≡ upTo (levelAt settings (now (page .entry)) bit) 96 ⌝ }
+    ensures { λ _. ⌜ now (row .exit) ≡ upTo (pageLevel settings (now (page .entry)) bit) 96 ⌝ }
 {
     let mut x = 0;
     while x < LCD_WIDTH {
@@ -150,26 +148,22 @@ pub(crate) fn paint_row(
     requires { ⌜ length (now ram) ≡ 4096 ⌝ }
     requires { ⌜ y < 64 ⌝ }
     requires { ⌜ length (now row) ≡ 96 ⌝ }
-    ensures { λ _. ⌜ now (row .exit) ≡ imageRow lit settings (now (ram .entry)) y ⌝ }
+    ensures { λ _. ⌜ now (row .exit) ≡ imageRow settings lit (now (ram .entry)) y ⌝ }
 {
-    if !lit {
-        clear_row(row);
-        return;
-    }
     let line = line_of(settings, y);
-    if line >= settings.duty {
-        clear_row(row);
+    if lit & (line < settings.duty) {
+        let shown = ram_row_of(settings, line);
+        let page = (shown / 8) as usize;
+        paint_page(
+            settings,
+            levels,
+            &ram[page * 256..page * 256 + 256],
+            shown % 8,
+            row,
+        );
         return;
     }
-    let shown = ram_row_of(settings, line);
-    let page = (shown / 8) as usize;
-    paint_page(
-        settings,
-        levels,
-        &ram[page * 256..page * 256 + 256],
-        shown % 8,
-        row,
-    );
+    clear_row(row);
 }
 
 // All glass rows.
@@ -177,7 +171,7 @@ fn paint(settings: Settings, lit: bool, ram: &[u8], image: &mut [u8])
     requires { ⌜ validSettings settings ≡ true ⌝ }
     requires { ⌜ length (now ram) ≡ 4096 ⌝ }
     requires { ⌜ length (now image) ≡ 6144 ⌝ }
-    ensures { λ _. ⌜ now (image .exit) ≡ rowsUpTo (imageRow lit settings (now (ram .entry))) 64 ⌝ }
+    ensures { λ _. ⌜ now (image .exit) ≡ rowsUpTo (imageRow settings lit (now (ram .entry))) 64 ⌝ }
 {
     let levels = levels_of(settings);
     let mut y = 0;
@@ -197,19 +191,14 @@ fn paint(settings: Settings, lit: bool, ram: &[u8], image: &mut [u8])
 
 // The whole image into 6,144 lent bytes.
 pub fn render(settings: Settings, driven: bool, ram: &[u8], icons: &[u8], image: &mut [u8]) -> Check
-    ensures { λ r. ⌜ r ≡ checkImage settings (now (ram .entry)) (now (icons .entry)) (now (image .entry)) ⌝ }
-    ensures { λ _. ⌜ now (image .exit) ≡ rendered driven settings (now (ram .entry)) (now (icons .entry)) (now (image .entry)) ⌝ }
+    ensures { λ r. ⌜ refused r ≡ checkImage settings (now (ram .entry)) (now (icons .entry)) (length (now (image .entry))) ⌝ }
+    ensures { λ _. ⌜ now (image .exit) ≡ rendered settings driven (now (ram .entry)) (now (icons .entry)) (now (image .entry)) ⌝ }
 {
-    if !memory_ok(ram, icons) {
-        return Check::Refused(Refusal::Memory);
-    }
-    if image.len() != LCD_WIDTH * LCD_HEIGHT {
-        return Check::Refused(Refusal::Image);
-    }
-    if !settings.valid() {
-        return Check::Refused(Refusal::Settings);
-    }
-    let lit = lit_by(driven, settings);
+    let check = check_image(settings, ram, icons, image.len());
+    let Check::Passed = check else {
+        return check;
+    };
+    let lit = lit_by(settings, driven);
     paint(settings, lit, ram, image);
     Check::Passed
 }

@@ -4,15 +4,13 @@ ghost use mathlib.Core.Path.{_≡_};
 ghost use Prim.Native.Nat.{ℕ, _+_, _*_, _^_, _<_, _≤_};
 ghost use lib.ListN.{length};
 ghost use Rattle.scan.specs.Shade.{shadeOf};
-ghost use Rattle.scan.specs.Latch.{latchedRow, shadeActive, activeShades, rowActive, bit as bitOf, word as wordOf, words as wordsOf, latch as latchOf, shown, affects, retained, checkLent, retainScan};
+ghost use Rattle.scan.specs.Latch.{latchedRow, shadeActive, bit as bitOf, word as wordOf, words as wordsOf, presentLatch, shown as shownOf, affects, retained as retainedOf};
+ghost use Rattle.scan.specs.Closed.{activeShades, rowActive};
 use crate::settings::Settings;
 use crate::shade::pulse_width;
 use crate::shade::shade;
-use crate::state::Changed;
-use crate::state::Check;
-use crate::state::Refusal;
+use crate::state::Latch;
 use crate::state::Scan;
-use crate::state::memory_ok;
 
 // The page that a data byte goes to, or none for a command.
 pub enum DataPage {
@@ -26,29 +24,30 @@ const ICON_ROW: u8 = 128;
 fn latched_row(scan: Scan) -> u8
     ensures { λ r. ⌜ r ≡ latchedRow scan ⌝ }
 {
-    if scan.row == scan.duty {
+    let frame = scan.frame;
+    if scan.row == frame.duty {
         return ICON_ROW;
     }
-    (scan.start_line % 128 + scan.row % 128) % 128
+    (frame.start_line % 128 + scan.row % 128) % 128
 }
 
-fn shade_active(settings: Settings, scan: Scan, shade: u8) -> bool
+fn shade_active(scan: Scan, settings: Settings, shade: u8) -> bool
     requires { ⌜ shade < 4 ⌝ }
     requires { ⌜ scan .frc < 4 ⌝ }
-    ensures { λ r. ⌜ r ≡ shadeActive settings scan shade ⌝ }
+    ensures { λ r. ⌜ r ≡ shadeActive scan settings shade ⌝ }
 {
     scan.step < pulse_width(settings, shade, scan.frc, scan.pwm)
 }
 
 // The activity of the four shades, which holds for a whole row.
-fn active_shades(settings: Settings, scan: Scan) -> [bool; 4]
+fn active_shades(scan: Scan, settings: Settings) -> [bool; 4]
     requires { ⌜ scan .frc < 4 ⌝ }
-    ensures { λ r. ⌜ r ≡ activeShades settings scan ⌝ }
+    ensures { λ r. ⌜ r ≡ activeShades scan settings ⌝ }
 {
-    let first = shade_active(settings, scan, 0);
-    let second = shade_active(settings, scan, 1);
-    let third = shade_active(settings, scan, 2);
-    let fourth = shade_active(settings, scan, 3);
+    let first = shade_active(scan, settings, 0);
+    let second = shade_active(scan, settings, 1);
+    let third = shade_active(scan, settings, 2);
+    let fourth = shade_active(scan, settings, 3);
     [first, second, third, fourth]
 }
 
@@ -88,44 +87,45 @@ fn word(settings: Settings, active: [bool; 4], part: &[u8], bit: u8, first: u8) 
 }
 
 // The latch of a row: `part` is the 256 bytes that hold it, `bit` its place in them.
-fn words(settings: Settings, scan: Scan, part: &[u8], bit: u8) -> [u64; 2]
+fn words(scan: Scan, settings: Settings, part: &[u8], bit: u8) -> [u64; 2]
     requires { ⌜ scan .frc < 4 ⌝ }
     requires { ⌜ length (now part) ≡ 256 ⌝ }
     requires { ⌜ bit < 8 ⌝ }
-    ensures { λ r. ⌜ r ≡ wordsOf (λ (k : ℕ). shadeActive settings scan (shadeOf settings (now (part .entry)) bit k)) ⌝ }
+    ensures { λ r. ⌜ r ≡ wordsOf (λ (k : ℕ). shadeActive scan settings (shadeOf settings (now (part .entry)) bit k)) ⌝ }
 {
-    let active = active_shades(settings, scan);
+    let active = active_shades(scan, settings);
     let low = word(settings, active, part, bit, 0);
     let high = word(settings, active, part, bit, 64);
     [low, high]
 }
 
 // The latch of present memory and settings.
-pub(crate) fn latch(settings: Settings, scan: Scan, ram: &[u8], icons: &[u8]) -> [u64; 2]
+pub(crate) fn present_latch(scan: Scan, settings: Settings, ram: &[u8], icons: &[u8]) -> [u64; 2]
     requires { ⌜ scan .frc < 4 ⌝ }
     requires { ⌜ length (now ram) ≡ 4096 ⌝ }
     requires { ⌜ length (now icons) ≡ 256 ⌝ }
-    ensures { λ r. ⌜ r ≡ latchOf settings scan (now (ram .entry)) (now (icons .entry)) ⌝ }
+    ensures { λ r. ⌜ r ≡ presentLatch scan settings (now (ram .entry)) (now (icons .entry)) ⌝ }
 {
     let row = latched_row(scan);
     if row == ICON_ROW {
-        return words(settings, scan, icons, 0);
+        return words(scan, settings, icons, 0);
     }
     let at = (row / 8) as usize * 256;
-    words(settings, scan, &ram[at..at + 256], row % 8)
+    words(scan, settings, &ram[at..at + 256], row % 8)
 }
 
 // What is shown: the latch that is kept, or else the present one.
-pub(crate) fn segments(settings: Settings, scan: Scan, ram: &[u8], icons: &[u8]) -> [u64; 2]
+pub(crate) fn shown(scan: Scan, settings: Settings, ram: &[u8], icons: &[u8]) -> [u64; 2]
     requires { ⌜ scan .frc < 4 ⌝ }
     requires { ⌜ length (now ram) ≡ 4096 ⌝ }
     requires { ⌜ length (now icons) ≡ 256 ⌝ }
-    ensures { λ r. ⌜ r ≡ shown settings scan (now (ram .entry)) (now (icons .entry)) ⌝ }
+    ensures { λ r. ⌜ r ≡ shownOf scan settings (now (ram .entry)) (now (icons .entry)) ⌝ }
 {
-    if scan.latched {
-        return scan.segments;
+    let latch = scan.latch;
+    if latch.latched {
+        return latch.segments;
     }
-    latch(settings, scan, ram, icons)
+    present_latch(scan, settings, ram, icons)
 }
 
 // Whether a byte could alter what a row shows.
@@ -138,61 +138,32 @@ fn affected(page: DataPage, row: u8) -> bool
     if number == 16 {
         return row == ICON_ROW;
     }
-    if row == ICON_ROW {
-        return false;
-    }
-    row / 8 == number % 16
+    (row != ICON_ROW) & (row / 8 == number % 16)
 }
 
 // The scan with its latch kept, where a byte could alter the row being shown.
-fn keep(settings: Settings, scan: Scan, page: DataPage, ram: &[u8], icons: &[u8]) -> Scan
+pub(crate) fn retained(
+    scan: Scan,
+    settings: Settings,
+    page: DataPage,
+    ram: &[u8],
+    icons: &[u8],
+) -> Scan
     requires { ⌜ scan .frc < 4 ⌝ }
     requires { ⌜ length (now ram) ≡ 4096 ⌝ }
     requires { ⌜ length (now icons) ≡ 256 ⌝ }
-    ensures { λ r. ⌜ r ≡ retained settings scan (now (ram .entry)) (now (icons .entry)) page ⌝ }
+    ensures { λ r. ⌜ r ≡ retainedOf scan settings page (now (ram .entry)) (now (icons .entry)) ⌝ }
 {
-    if scan.latched {
+    let latch = scan.latch;
+    if latch.latched | !affected(page, latched_row(scan)) {
         return scan;
     }
-    if !affected(page, latched_row(scan)) {
-        return scan;
-    }
-    let segments = latch(settings, scan, ram, icons);
-    let mut kept = scan;
-    kept.segments = segments;
-    kept.latched = true;
-    kept
-}
-
-// Numbers 2 to 5, in the table's order.
-fn check_lent(settings: Settings, scan: Scan, ram: &[u8], icons: &[u8]) -> Check
-    ensures { λ r. ⌜ r ≡ checkLent settings scan (now (ram .entry)) (now (icons .entry)) ⌝ }
-{
-    if !memory_ok(ram, icons) {
-        return Check::Refused(Refusal::Memory);
-    }
-    if !settings.valid() {
-        return Check::Refused(Refusal::Settings);
-    }
-    scan.check()
-}
-
-impl Scan {
-    // The scan as a byte for `page` has to find it: its latch kept, where the byte could alter it.
-    pub fn retain(self, settings: Settings, page: DataPage, ram: &[u8], icons: &[u8]) -> Changed
-        ensures { λ r. ⌜ r ≡ retainScan settings self page (now (ram .entry)) (now (icons .entry)) ⌝ }
-    {
-        let check = check_lent(settings, self, ram, icons);
-        let Check::Passed = check else {
-            return Changed {
-                check: check,
-                scan: self,
-            };
-        };
-        let scan = keep(settings, self, page, ram, icons);
-        Changed {
-            check: Check::Passed,
-            scan: scan,
-        }
-    }
+    let segments = present_latch(scan, settings, ram, icons);
+    let kept = Latch {
+        segments: segments,
+        latched: true,
+    };
+    let mut next = scan;
+    next.latch = kept;
+    next
 }

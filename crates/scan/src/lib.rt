@@ -1,5 +1,7 @@
 // The scan of the LCD: its settings and counters, counting by quanta, the output latch, the drive of
 // the electrodes and the gray image. Document 01, 'Scan' and 'Drive, electrodes, image'.
+mod check;
+mod closed;
 mod count;
 pub mod drive;
 mod image;
@@ -9,6 +11,9 @@ mod settings;
 mod shade;
 mod state;
 
+pub use check::Changed;
+pub use check::Check;
+pub use check::Refusal;
 pub use count::Counted;
 pub use drive::Common;
 pub use drive::Conditions;
@@ -19,9 +24,11 @@ pub use image::LCD_HEIGHT;
 pub use image::LCD_WIDTH;
 pub use image::render;
 pub use latch::DataPage;
+pub use run::Running;
+pub use settings::Frame;
 pub use settings::Settings;
-pub use state::Changed;
-pub use state::Check;
-pub use state::Refusal;
+pub use state::Inversion;
+pub use state::Latch;
 pub use state::Scan;
 pub use state::ScanClock;
+pub use state::Ticking;

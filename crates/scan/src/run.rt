@@ -1,64 +1,67 @@
-// What a byte or a warm rise does to the scan besides counting: a line inversion that ends, a scan
-// that begins, and its clock started or dropped. Document 01, 'Scan'. The moment of a call is
+// What a byte, a warm rise or a fall does to the scan. Document 01, 'Scan'. The moment of a call is
 // `moment` where memory is lent, since a clause reads lent memory by `now`.
 ghost use mathlib.Core.Path.{_≡_};
 ghost use mathlib.Core.Bool.{true};
+ghost use mathlib.Core.Option.{none};
 ghost use lib.ListN.{length};
 ghost use Rattle.clock.specs.Time.{inRange};
-ghost use Rattle.clock.specs.Rate.{isLcd};
-ghost use Rattle.scan.specs.Settings.{rateOf};
-ghost use Rattle.scan.specs.State.{rows};
-ghost use Rattle.scan.specs.Run.{cleared as clearedOf, taken as takenOf, begun as begunOf, stopped as stoppedOf, clocked as clockedOf, settled as settledOf, checkCall, updateClock, stopScan};
-use crate::count::rate_of;
-use crate::count::with_clock;
-use crate::latch::latch;
+ghost use Rattle.scan.specs.Check.{answered, validSettings, checkScan};
+ghost use Rattle.scan.specs.Run.{runningAfter, cleared as clearedOf, taken as takenOf, begun as begunOf, stopped as stoppedOf, clocked as clockedOf, updated as updatedOf, beforeByte, afterByte, fallScan};
+use crate::check::Changed;
+use crate::check::Check;
+use crate::check::check_lent;
+use crate::check::check_moment;
+use crate::count::in_pieces;
+use crate::latch::DataPage;
+use crate::latch::present_latch;
+use crate::latch::retained;
 use crate::settings::Settings;
-use crate::settings::frc_count_of;
+use crate::settings::frame_of;
 use crate::settings::pwm_of;
-use crate::state::Changed;
-use crate::state::Check;
-use crate::state::Refusal;
+use crate::settings::rate_of;
+use crate::state::Inversion;
+use crate::state::Latch;
 use crate::state::Scan;
 use crate::state::ScanClock;
-use crate::state::memory_ok;
-use clock::Clock;
-use clock::Made;
-use clock::Rate;
+use crate::state::Ticking;
+use crate::state::start_clock;
+use crate::state::with_ticking;
 use clock::Time;
 
-// Numbers 2, 1, 3, 4 and 5, in the table's order; `settings_ok` says that number 3 does not apply.
-pub(crate) fn check_call(
-    settings_ok: bool,
-    scan: Scan,
-    moment: Time,
-    ram: &[u8],
-    icons: &[u8],
-) -> Check
-    ensures { λ r. ⌜ r ≡ checkCall «settings_ok» scan moment (now (ram .entry)) (now (icons .entry)) ⌝ }
-{
-    if !memory_ok(ram, icons) {
-        return Check::Refused(Refusal::Memory);
+// What a byte or a warm rise does to the scan: it makes it run, leaves it running, or the scan does
+// not run.
+pub enum Running {
+    Begins,
+    Continues,
+    Stands,
+}
+
+impl Running {
+    // By whether the scan ran before and runs after.
+    pub fn after(was_running: bool, runs: bool) -> Self
+        ensures { λ r. ⌜ r ≡ runningAfter «was_running» runs ⌝ }
+    {
+        if !runs {
+            return Running::Stands;
+        }
+        if was_running {
+            return Running::Continues;
+        }
+        Running::Begins
     }
-    if !moment.in_range() {
-        return Check::Refused(Refusal::Time);
-    }
-    if !settings_ok {
-        return Check::Refused(Refusal::Settings);
-    }
-    scan.check()
 }
 
 // The scan with its line inversion ended, where the settings have none: an old interval must not
 // flip the polarity before the next frame end.
-fn cleared(settings: Settings, scan: Scan) -> Scan
-    ensures { λ r. ⌜ r ≡ clearedOf settings scan ⌝ }
+fn cleared(scan: Scan, settings: Settings) -> Scan
+    ensures { λ r. ⌜ r ≡ clearedOf scan settings ⌝ }
 {
     if settings.inversion_lines != 0 {
         return scan;
     }
     let mut next = scan;
-    next.inversion_lines = 0;
-    next.inversion_count = 0;
+    next.inversion.lines = 0;
+    next.inversion.count = 0;
     next
 }
 
@@ -66,25 +69,27 @@ fn cleared(settings: Settings, scan: Scan) -> Scan
 fn taken(settings: Settings) -> Scan
     ensures { λ r. ⌜ r ≡ takenOf settings ⌝ }
 {
-    let rate = rate_of(settings, settings.duty, settings.icon_enabled);
+    let frame = frame_of(settings);
+    let rate = rate_of(settings, frame);
     Scan {
-        clock: ScanClock::Stopped,
-        rate: rate,
-        duty: settings.duty,
-        icon: settings.icon_enabled,
-        initial_com: settings.initial_com,
-        common_reverse: settings.common_reverse,
-        start_line: settings.start_line,
+        ticking: Ticking {
+            clock: ScanClock::Stopped,
+            rate: rate,
+        },
+        latch: Latch {
+            segments: [0; 2],
+            latched: true,
+        },
+        frame: frame,
         pwm: pwm_of(settings.gray_mode),
-        frc_count: frc_count_of(settings.gray_mode),
         row: 0,
         step: 0,
         frc: 0,
-        inversion_lines: settings.inversion_lines,
-        inversion_count: 0,
-        inverted: false,
-        segments: [0; 2],
-        latched: true,
+        inversion: Inversion {
+            lines: settings.inversion_lines,
+            count: 0,
+            inverted: false,
+        },
     }
 }
 
@@ -95,97 +100,138 @@ fn begun(settings: Settings, ram: &[u8], icons: &[u8]) -> Scan
     ensures { λ r. ⌜ r ≡ begunOf settings (now (ram .entry)) (now (icons .entry)) ⌝ }
 {
     let scan = taken(settings);
-    let segments = latch(settings, scan, ram, icons);
+    let segments = present_latch(scan, settings, ram, icons);
+    let latch = Latch {
+        segments: segments,
+        latched: true,
+    };
     let mut next = scan;
-    next.segments = segments;
+    next.latch = latch;
     next
-}
-
-fn settled(settings: Settings, scan: Scan, starts: bool, ram: &[u8], icons: &[u8]) -> Scan
-    requires { ⌜ length (now ram) ≡ 4096 ⌝ }
-    requires { ⌜ length (now icons) ≡ 256 ⌝ }
-    ensures { λ r. ⌜ r ≡ settledOf settings scan starts (now (ram .entry)) (now (icons .entry)) ⌝ }
-{
-    if starts {
-        return begun(settings, ram, icons);
-    }
-    cleared(settings, scan)
 }
 
 // The counters stay.
 fn stopped(scan: Scan) -> Scan
     ensures { λ r. ⌜ r ≡ stoppedOf scan ⌝ }
 {
-    let rate = scan.rate;
-    with_clock(scan, ScanClock::Stopped, rate)
+    let ticking = scan.ticking;
+    let rate = ticking.rate;
+    with_ticking(scan, ScanClock::Stopped, rate)
 }
 
-// The scan with its clock dropped, or running: a missing clock starts at the moment.
-fn clocked(settings: Settings, scan: Scan, moment: Time, ticks: bool) -> Scan
+// A scan that runs: a missing clock starts at the moment, and oscillator control bit 0 drops it.
+fn clocked(scan: Scan, settings: Settings, moment: Time) -> Scan
     requires { ⌜ inRange moment ≡ true ⌝ }
-    requires { ⌜ isLcd (rateOf settings (rows scan)) ≡ true ⌝ }
-    ensures { λ r. ⌜ r ≡ clockedOf settings scan moment ticks ⌝ }
+    requires { ⌜ validSettings settings ≡ true ⌝ }
+    requires { ⌜ checkScan scan ≡ none ⌝ }
+    ensures { λ r. ⌜ r ≡ clockedOf scan settings moment ⌝ }
 {
-    if !ticks {
+    if settings.oscillator_control % 2 != 0 {
         return stopped(scan);
     }
-    let clock = scan.clock;
+    let ticking = scan.ticking;
+    let clock = ticking.clock;
     let ScanClock::Stopped = clock else {
         return scan;
     };
-    let rate = rate_of(settings, scan.duty, scan.icon);
-    let made = Clock::new(moment, rate);
-    // An LCD rate and a moment in range are not refused.
-    let Made::Clock(new) = made else {
-        return scan;
-    };
-    with_clock(scan, ScanClock::Running(new), rate)
+    let frame = scan.frame;
+    let rate = rate_of(settings, frame);
+    with_ticking(scan, start_clock(moment, rate), rate)
+}
+
+// The scan after a byte or a warm rise.
+fn updated(
+    scan: Scan,
+    settings: Settings,
+    moment: Time,
+    running: Running,
+    ram: &[u8],
+    icons: &[u8],
+) -> Scan
+    requires { ⌜ inRange moment ≡ true ⌝ }
+    requires { ⌜ validSettings settings ≡ true ⌝ }
+    requires { ⌜ checkScan scan ≡ none ⌝ }
+    requires { ⌜ length (now ram) ≡ 4096 ⌝ }
+    requires { ⌜ length (now icons) ≡ 256 ⌝ }
+    ensures { λ r. ⌜ r ≡ updatedOf scan settings moment running (now (ram .entry)) (now (icons .entry)) ⌝ }
+{
+    match running {
+        Running::Begins => clocked(begun(settings, ram, icons), settings, moment),
+        Running::Continues => clocked(cleared(scan, settings), settings, moment),
+        Running::Stands => stopped(cleared(scan, settings)),
+    }
 }
 
 impl Scan {
-    // The scan after a byte or a warm rise, `was_running` and `running` being whether the
-    // controller let it run before and after it.
-    pub fn update_clock(
+    // The scan as a byte has to find it: counted to its moment, and its latch kept where the byte
+    // could alter the row being shown.
+    pub fn before_byte(
         self,
         settings: Settings,
         moment: Time,
-        was_running: bool,
-        running: bool,
+        page: DataPage,
         ram: &[u8],
         icons: &[u8],
     ) -> Changed
-        ensures { λ r. ⌜ r ≡ updateClock settings self moment «was_running» running (now (ram .entry)) (now (icons .entry)) ⌝ }
+        ensures { λ r. ⌜ answered r ≡ beforeByte self settings moment page (now (ram .entry)) (now (icons .entry)) ⌝ }
     {
-        let check = check_call(settings.valid(), self, moment, ram, icons);
+        let check = check_lent(self, settings.valid(), moment, ram, icons);
         let Check::Passed = check else {
             return Changed {
                 check: check,
                 scan: self,
             };
         };
-        let scan = settled(settings, self, running & !was_running, ram, icons);
-        let ticks = running & (settings.oscillator_control % 2 == 0);
-        let next = clocked(settings, scan, moment, ticks);
+        let counted = in_pieces(self, settings, moment);
+        let latest = counted.scan;
+        let scan = retained(latest, settings, page, ram, icons);
         Changed {
             check: Check::Passed,
-            scan: next,
+            scan: scan,
         }
     }
 
-    // The scan with its clock dropped.
-    pub fn stop(self) -> Changed
-        ensures { λ r. ⌜ r ≡ stopScan self ⌝ }
+    // The scan after a byte or a warm rise, with the settings and memory that it left.
+    pub fn after_byte(
+        self,
+        settings: Settings,
+        moment: Time,
+        running: Running,
+        ram: &[u8],
+        icons: &[u8],
+    ) -> Changed
+        ensures { λ r. ⌜ answered r ≡ afterByte self settings moment running (now (ram .entry)) (now (icons .entry)) ⌝ }
     {
-        let check = self.check();
+        let check = check_lent(self, settings.valid(), moment, ram, icons);
         let Check::Passed = check else {
             return Changed {
                 check: check,
                 scan: self,
             };
         };
+        let scan = updated(self, settings, moment, running, ram, icons);
         Changed {
             check: Check::Passed,
-            scan: stopped(self),
+            scan: scan,
+        }
+    }
+
+    // The scan after a fall of the supply: counted to its moment, and its clock dropped.
+    pub fn fall(self, settings: Settings, now: Time) -> Changed
+        ensures { λ r. ⌜ answered r ≡ fallScan self settings now ⌝ }
+    {
+        let check = check_moment(self, settings.valid(), now);
+        let Check::Passed = check else {
+            return Changed {
+                check: check,
+                scan: self,
+            };
+        };
+        let counted = in_pieces(self, settings, now);
+        let latest = counted.scan;
+        Changed {
+            check: Check::Passed,
+            scan: stopped(latest),
         }
     }
 }

@@ -1,6 +1,7 @@
 // The registers that counting, latch and image read, and what they say of the scan.
 ghost use mathlib.Core.Path.{_≡_};
-ghost use Rattle.scan.specs.Settings.{validSettings, linesOk, pwmOf, frcCountOf, rowsOf};
+ghost use Rattle.scan.specs.Settings.{pwmOf, frcCountOf, frameOf, rowsIn, rateOf};
+use clock::Rate;
 
 pub struct Settings {
     pub start_line: u8,
@@ -18,21 +19,18 @@ pub struct Settings {
     pub oscillator_frequency: u8,
 }
 
+// What a frame end takes from the settings, and the scan holds until the next.
+pub struct Frame {
+    pub duty: u8,
+    pub icon: bool,
+    pub initial_com: u8,
+    pub common_reverse: bool,
+    pub start_line: u8,
+    pub frc_count: u8,
+}
+
 // Quanta in a row, by the two low bits of the gray mode.
 const PWM: [u8; 4] = [9, 9, 12, 15];
-
-// Inversion by frame, or every 3 to 33 lines.
-pub(crate) fn lines_ok(lines: u8) -> bool
-    ensures { λ r. ⌜ r ≡ linesOk lines ⌝ }
-{
-    if lines == 0 {
-        return true;
-    }
-    if lines < 3 {
-        return false;
-    }
-    lines <= 33
-}
 
 pub(crate) fn pwm_of(gray_mode: u8) -> u8
     ensures { λ r. ⌜ r ≡ pwmOf «gray_mode» ⌝ }
@@ -47,41 +45,35 @@ pub(crate) fn frc_count_of(gray_mode: u8) -> u8
     if gray_mode / 4 % 2 == 0 { 4 } else { 3 }
 }
 
-pub(crate) fn rows_of(duty: u8, icon: bool) -> u16
-    ensures { λ r. ⌜ r ≡ rowsOf duty icon ⌝ }
+pub(crate) fn frame_of(settings: Settings) -> Frame
+    ensures { λ r. ⌜ r ≡ frameOf settings ⌝ }
 {
-    if icon {
-        return (duty as u16) + 1;
+    Frame {
+        duty: settings.duty,
+        icon: settings.icon_enabled,
+        initial_com: settings.initial_com,
+        common_reverse: settings.common_reverse,
+        start_line: settings.start_line,
+        frc_count: frc_count_of(settings.gray_mode),
     }
-    duty as u16
 }
 
-impl Settings {
-    // The conditions of `validate` on these registers: number 3.
-    pub fn valid(self) -> bool
-        ensures { λ r. ⌜ r ≡ validSettings self ⌝ }
-    {
-        if self.start_line >= 128 {
-            return false;
-        }
-        if self.initial_com >= 128 {
-            return false;
-        }
-        if self.duty < 16 {
-            return false;
-        }
-        if self.duty > 128 {
-            return false;
-        }
-        if !lines_ok(self.inversion_lines) {
-            return false;
-        }
-        if self.gray_mode > 7 {
-            return false;
-        }
-        if self.oscillator_control > 3 {
-            return false;
-        }
-        self.oscillator_frequency <= 31
+pub(crate) fn rows_in(frame: Frame) -> u16
+    ensures { λ r. ⌜ r ≡ rowsIn frame ⌝ }
+{
+    if frame.icon {
+        return (frame.duty as u16) + 1;
     }
+    frame.duty as u16
+}
+
+// The rate of the settings and the rows of a frame.
+pub(crate) fn rate_of(settings: Settings, frame: Frame) -> Rate
+    ensures { λ r. ⌜ r ≡ rateOf settings (rowsIn frame) ⌝ }
+{
+    Rate::lcd(
+        settings.oscillator_control,
+        settings.oscillator_frequency,
+        rows_in(frame),
+    )
 }

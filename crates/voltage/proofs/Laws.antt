@@ -1,5 +1,5 @@
--- Laws of the voltages, for the crates above: what valid settings are, what an answer is, when V0 is absent, that the levels
--- fall from V0 to V4, and that the target rises with the contrast and the regulator setting.
+-- Laws of the voltages, for the crates above: what an answer is, when V0 is absent, that the levels fall from V0 to
+-- V4, and that the target rises with the contrast and the regulator setting.
 use Prim.Native.Nat.{ℕ, suc, _+_, _-_, _*_, _/_, _<_, _≤_}
 use mathlib.Core.Bool.{Bool, true, false, cond, _&&_, and-false}
 use mathlib.Core.Logic.{_⊎_, inl, inr, _↔_}
@@ -9,50 +9,19 @@ use native.Mathlib.Omega.{arith}
 use lib.Dec.{leb}
 use lib.IntN.{ℤ, pos, negsuc}
 use borrow.Author.Tests.{leb-true, leb-false, le-leb, lt-leb}
+use Rattle.checks.proofs.Tests.{fails}
 use Rattle.voltage.specs.declared.Settings.{Settings}
 use Rattle.voltage.specs.declared.Supply.{Supply}
 use Rattle.voltage.specs.declared.Level.{Level}
 use Rattle.voltage.specs.declared.Level.the-variants.{Absent}
 use Rattle.voltage.specs.declared.LcdVoltages.{LcdVoltages}
-use Rattle.voltage.specs.declared.Refusal.the-variants as refusal
+use Rattle.voltage.specs.declared.check.Refusal.{Refusal}
 use Rattle.voltage.specs.declared.Answer.{Answer}
 use Rattle.voltage.specs.declared.Answer.the-variants.{Voltages, Refused}
-use Rattle.voltage.specs.Check.{hasBit, validBooster, validSettings}
+use Rattle.voltage.specs.Check.{hasBit, validSettings}
 use Rattle.voltage.specs.Voltage.{atMost, levelAt, above, rounded, gain, ev, temperatureFactor, trim, targetAt, share, v0Present, levels, target, pump, voltages}
 use Rattle.voltage.specs.Answers.{microvolts, answered, answerOf}
-use Rattle.voltage.proofs.Numbers.{both, gain-is, diff-cut, at-most-limit}
-
--- ---- valid settings
-pub record InRange (s : Settings) : Type 0 where
-  pub contrast : s .contrast ≤ 63
-  pub regulator : s .regulator ≤ 7
-  pub power-control : s .«power_control» ≤ 7
-  pub booster : validBooster (s .booster) ≡ true
-  pub bias : s .bias ≤ 7
-  pub temperature-slope : s .«temperature_slope» ≤ 1
-  pub contrast-trim : s .«contrast_trim» ≤ 15
-  pub otp-control : s .«otp_control» ≤ 3
-
-pub in-range : (s : Settings) → validSettings s ≡ true → InRange s
-unfolding validSettings
-in-range s valid =
-    let a = both _ _ valid in
-    let b = both _ _ (a .0) in
-    let c = both _ _ (b .0) in
-    let d = both _ _ (c .0) in
-    let e = both _ _ (d .0) in
-    let f = both _ _ (e .0) in
-    let g = both _ _ (f .0) in
-    record {
-      contrast = leb-true _ _ (g .0);
-      regulator = leb-true _ _ (g .1);
-      power-control = leb-true _ _ (f .1);
-      booster = e .1;
-      bias = leb-true _ _ (d .1);
-      temperature-slope = leb-true _ _ (c .1);
-      contrast-trim = leb-true _ _ (b .1);
-      otp-control = leb-true _ _ (a .1);
-    }
+use Rattle.voltage.proofs.Numbers.{gain-is, diff-cut, at-most-limit}
 
 -- ---- what an answer to `voltages` is
 pub answer-valid : (s : Settings) (x : Supply) (r : Answer) → answered r ≡ answerOf s x → validSettings s ≡ true → r ≡ Voltages (voltages s x)
@@ -60,10 +29,10 @@ unfolding answerOf
 answer-valid s x (Voltages v) e valid = let q = rw valid at e in cc
 answer-valid s x (Refused why) e valid = let q = rw valid at e in cc
 
-pub answer-invalid : (s : Settings) (x : Supply) (r : Answer) → answered r ≡ answerOf s x → validSettings s ≡ false → r ≡ Refused refusal.Settings
+pub answer-invalid : (s : Settings) (x : Supply) (r : Answer) → answered r ≡ answerOf s x → validSettings s ≡ false → r ≡ Refused Refusal.Settings
 unfolding answerOf
 answer-invalid s x (Voltages v) e invalid = let q = rw invalid at e in cc
-answer-invalid s x (Refused refusal.Settings) e invalid = refl
+answer-invalid s x (Refused Refusal.Settings) e invalid = refl
 
 -- ---- shares of the target
 module _ (v n : ℕ) (some : 0 < n) where
@@ -84,10 +53,6 @@ module _ (v n : ℕ) (some : 0 < n) where
 absent-not : (present : Bool) (v : ℕ) → levelAt present v ≡ Absent → present ≡ false
 absent-not true v e = absurd (let z : _≡_ {A = ℕ} 0 1 = cc in omega arith)
 absent-not false v e = refl
-
-fails : (a b : Bool) → a && b ≡ false → (a ≡ false) ⊎ (b ≡ false)
-fails true b h = inr h
-fails false b h = inl refl
 
 -- what V0 can lack: its bit of the power control, a target from 4,000,000 to 15,000,000, a pump that is high enough
 abbrev pub V0Lacks : ℕ → ℕ → Level → Type 0

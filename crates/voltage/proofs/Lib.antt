@@ -1,3 +1,4 @@
--- Numbers: the arithmetic that the functions' proofs share. Laws: what the crates above may use.
+-- Numbers: the arithmetic that the functions' proofs share. Checks and Laws: what the crates above may use.
 mod Numbers
+pub mod Checks
 pub mod Laws

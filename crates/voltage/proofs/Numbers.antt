@@ -1,12 +1,12 @@
 -- Arithmetic that the proofs of several functions share.
 use Prim.Native.Nat.{ℕ, zero, suc, _+_, _-_, _*_, _^_, _<_, _≤_}
-use mathlib.Core.Bool.{Bool, true, false, cond, _&&_, false≢true}
+use mathlib.Core.Bool.{Bool, true, false, cond}
 use mathlib.Core.List.{List, [], _∷_}
 use mathlib.Core.Path.{_≡_, refl, _∙_, ap}
 use native.Mathlib.Nat.{add-mul, mul-right-comm, mul-le-mul, le-of-lt}
 use native.Mathlib.Omega.{arith}
 use lib.Dec.{leb, ltb}
-use lib.IntN.{ℤ, pos, negsuc, negℤ, natAbs, subℕ, pos-ne-negsuc, negℤ-negℤ, _+ℤ_, _-ℤ_, _*ℤ_}
+use lib.IntN.{ℤ, pos, negsuc, natAbs, subℕ, pos-ne-negsuc, negℤ-negℤ, _+ℤ_, _-ℤ_, _*ℤ_}
 use lib.ListN.{getD}
 use lib.Signed.{mag}
 use borrow.Author.Tests.{lt-ltb, le-ltb, ltb-true, ltb-false, leb-true}
@@ -100,10 +100,6 @@ at-most-limit limit n = go (leb n limit) refl
     go : (t : Bool) → leb n limit ≡ t → cond t n limit ≤ limit
     go true h = leb-true _ _ h
     go false h = omega arith
-
-pub both : (a b : Bool) → a && b ≡ true → (a ≡ true) × (b ≡ true)
-both true b h = (refl, h)
-both false b h = absurd (false≢true h)
 
 -- ---- the target, as it is computed: the gain before e
 pub target-is : (s : Settings) (z : ℤ) (t g b r contrast : ℕ) → t ≡ temperatureFactor (s .«temperature_slope») z → g ≡ gain r → pos b ≡ pos 147 +ℤ trim (s .«otp_control») (s .«contrast_trim») → rounded (t * g * (b + contrast)) ≡ targetAt s z r contrast

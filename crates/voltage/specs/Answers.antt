@@ -1,22 +1,16 @@
 -- What the answers say in document 01's terms: the number of a refusal, and the voltages.
 use Prim.Native.Nat.{ℕ}
-use mathlib.Core.Bool.{cond}
 use mathlib.Core.Logic.{_⊎_, inl, inr}
+use Rattle.checks.specs.Checks.{answer}
 use Rattle.voltage.specs.declared.Settings.{Settings}
 use Rattle.voltage.specs.declared.Supply.{Supply}
 use Rattle.voltage.specs.declared.LcdVoltages.{LcdVoltages}
 use Rattle.voltage.specs.declared.Level.{Level}
 use Rattle.voltage.specs.declared.Level.the-variants.{Absent, Microvolts}
-use Rattle.voltage.specs.declared.Refusal.{Refusal}
-use Rattle.voltage.specs.declared.Refusal.the-variants as refusal
 use Rattle.voltage.specs.declared.Answer.{Answer}
 use Rattle.voltage.specs.declared.Answer.the-variants.{Voltages, Refused}
-use Rattle.voltage.specs.Check.{validSettings}
+use Rattle.voltage.specs.Check.{number, settingsRow}
 use Rattle.voltage.specs.Voltage.{voltages}
-
--- 'Where a call is turned down': the number of a refusal
-abbrev pub number : Refusal → ℕ
-number refusal.Settings = 3
 
 -- a level: its microvolts, and 0 where it is absent
 abbrev pub microvolts : Level → ℕ
@@ -30,4 +24,4 @@ answered (Voltages v) = inr v
 
 -- the answer to `voltages`
 unfoldable pub answerOf : Settings → Supply → ℕ ⊎ LcdVoltages
-answerOf s x = cond (validSettings s) (inr (voltages s x)) (inl 3)
+answerOf s x = answer (settingsRow s) (voltages s x)

@@ -1,8 +1,15 @@
 -- Document 01, 'Where a call is turned down', number 3: the conditions of `validate` on the settings that the voltages read.
 use Prim.Native.Nat.{ℕ, _/_, _%_, _^_}
 use mathlib.Core.Bool.{Bool, not, _&&_}
+use mathlib.Core.Option.{Option}
 use lib.Dec.{leb, eqb}
+use Rattle.checks.specs.Checks.{row}
 use Rattle.voltage.specs.declared.Settings.{Settings}
+use Rattle.voltage.specs.declared.check.Refusal.{Refusal}
+
+-- the number of each refusal
+abbrev pub number : Refusal → ℕ
+number Refusal.Settings = 3
 
 -- n has bit k
 abbrev pub hasBit : ℕ → ℕ → Bool
@@ -17,3 +24,7 @@ unfoldable pub validSettings : Settings → Bool
 validSettings s =
     leb (s .contrast) 63 && leb (s .regulator) 7 && leb (s .«power_control») 7 && validBooster (s .booster)
     && leb (s .bias) 7 && leb (s .«temperature_slope») 1 && leb (s .«contrast_trim») 15 && leb (s .«otp_control») 3
+
+-- the row
+abbrev pub settingsRow : Settings → Option ℕ
+settingsRow s = row 3 (validSettings s)

@@ -67,15 +67,15 @@ levelAt false microvolts = Absent
 abbrev pub multiple : ℕ → ℕ
 multiple b = atMost 8 (3 + b % 4 + cond (hasBit b 3) 4 0)
 
--- T from −30,000 to 85,000
-abbrev pub inRange : ℤ → Bool
-inRange temperature = leZ (negℤ (pos 30000)) temperature && leZ temperature (pos 85000)
+-- the pump works at T from −30,000 to 85,000
+abbrev pub worksAt : ℤ → Bool
+worksAt temperature = leZ (negℤ (pos 30000)) temperature && leZ temperature (pos 85000)
 
 -- when the pump is present
 unfoldable pub pumpPresent : ℕ → Supply → Bool
 pumpPresent powerControl x =
     hasBit powerControl 2 && leb 2400 (x .«supply_millivolts») && leb (x .«supply_millivolts») 3600
-    && inRange (x .«temperature_millicelsius») && not (x .«power_save») && not (x .waiting)
+    && worksAt (x .«temperature_millicelsius») && not (x .«power_save») && not (x .waiting)
 
 -- the pump
 unfoldable pub pump : Settings → Supply → Level
@@ -114,3 +114,7 @@ levels s microvolts pumped =
 -- all that `voltages` gives
 unfoldable pub voltages : Settings → Supply → LcdVoltages
 voltages s x = levels s (target s (x .«temperature_millicelsius»)) (pump s x)
+
+-- `LcdVoltages::OFF`: nothing is driven
+abbrev pub off : LcdVoltages
+off = record { pump = Absent; target = 0; v0 = Absent; v1 = Absent; v2 = Absent; v3 = Absent; v4 = Absent }

@@ -43,9 +43,10 @@ fn scaled_at(factor: u64, pair: u16, held: u64) -> u64
 
 // A regulator and contrast setting whose target under this temperature and the other settings lies
 // from `low` to `high`, or None where none of the 512 pairs has one. The lowest regulator comes
-// first, then the lowest contrast. Of the settings given only slope, trim and OTP control matter.
-pub fn find_setting(low: u32, high: u32, settings: Settings, temperature: i32) -> Found
-    ensures { λ r. ⌜ Says low high settings temperature r ⌝ }
+// first, then the lowest contrast. Any setting out of range is refused; of settings in range only
+// slope, trim and OTP control matter.
+pub fn find_setting(settings: Settings, temperature: i32, low: u32, high: u32) -> Found
+    ensures { λ r. ⌜ Says settings temperature low high r ⌝ }
 {
     if !settings.valid() {
         return Found::Refused(Refusal::Settings);

@@ -4,7 +4,7 @@ ghost use mathlib.Core.Path.{_≡_};
 ghost use mathlib.Core.Bool.{true};
 ghost use Prim.Native.Nat.{_≤_, _<_};
 ghost use Rattle.voltage.specs.Check.{validSettings};
-ghost use Rattle.voltage.specs.Voltage.{inRange, atMost, multiple, levelAt, pumpPresent, pump, above, v0Present, share, voltages};
+ghost use Rattle.voltage.specs.Voltage.{worksAt, atMost, multiple, levelAt, pumpPresent, pump, above, v0Present, share, voltages};
 use crate::LcdVoltages;
 use crate::Level;
 use crate::Settings;
@@ -14,8 +14,8 @@ use crate::target::target_of;
 use crate::target::wide;
 
 // Whether the analog part works at this temperature.
-fn in_range(temperature: i32) -> bool
-    ensures { λ r. ⌜ r ≡ inRange temperature ⌝ }
+fn works_at(temperature: i32) -> bool
+    ensures { λ r. ⌜ r ≡ worksAt temperature ⌝ }
 {
     (-30_000 <= temperature) & (temperature <= 85_000)
 }
@@ -55,7 +55,7 @@ fn pump_present(power_control: u8, supply: Supply) -> bool
     has_bit(power_control, 2)
         & (2400 <= supply.supply_millivolts)
         & (supply.supply_millivolts <= 3600)
-        & in_range(temperature)
+        & works_at(temperature)
         & !supply.power_save
         & !supply.waiting
 }

@@ -1,13 +1,16 @@
 // The supplies of the LCD (document 01, 'Voltage' and 'Setting finder'): the settings that the
-// rules read, their check, the types of the answers, and `voltages`. The target stands in
-// target.rt, the pump and V0 to V4 in levels.rt, the setting finder in finder.rt.
+// rules read, the types of the answers, and `voltages`. The settings' check stands in check.rt, the
+// target in target.rt, the pump and V0 to V4 in levels.rt, the setting finder in finder.rt.
 ghost use mathlib.Core.Path.{_≡_};
-ghost use Rattle.voltage.specs.Check.{validBooster, validSettings};
+ghost use Rattle.voltage.specs.Voltage.{off};
 ghost use Rattle.voltage.specs.Answers.{answered, answerOf};
 
+mod check;
 pub mod finder;
 mod levels;
 mod target;
+
+pub use check::Refusal;
 
 // The controller's settings that the voltages read, under the names that the controller has.
 pub struct Settings {
@@ -60,38 +63,17 @@ impl LcdVoltages {
     };
 }
 
-// Why a call is turned down, by the numbers of document 01's table: the settings are out of range (3).
-pub enum Refusal {
-    Settings,
+// Ties the constant to its definition.
+fn off_voltages() -> LcdVoltages
+    ensures { λ r. ⌜ r ≡ off ⌝ }
+{
+    LcdVoltages::OFF
 }
 
 // The answer to `voltages`.
 pub enum Answer {
     Voltages(LcdVoltages),
     Refused(Refusal),
-}
-
-impl Settings {
-    // Whether every setting is in the range that the controller's `validate` demands.
-    pub fn valid(self) -> bool
-        ensures { λ r. ⌜ r ≡ validSettings self ⌝ }
-    {
-        (self.contrast <= 63)
-            & (self.regulator <= 7)
-            & (self.power_control <= 7)
-            & valid_booster(self.booster)
-            & (self.bias <= 7)
-            & (self.temperature_slope <= 1)
-            & (self.contrast_trim <= 15)
-            & (self.otp_control <= 3)
-    }
-}
-
-// Of the booster's bits only 0, 1 and 3 are assigned.
-fn valid_booster(booster: u8) -> bool
-    ensures { λ r. ⌜ r ≡ validBooster booster ⌝ }
-{
-    (booster <= 11) & !target::has_bit(booster, 2)
 }
 
 // The steady supplies under these settings, or the refusal of settings out of their range.

@@ -1,7 +1,8 @@
-//! Fixed lists of the original's answers, which a small Rattle program replays
-//! with no Rust at hand. Plain text: lines that start with `#` say how the list
-//! was made, every other line is one case: unsigned decimals, one space between,
-//! a newline after each. The same command gives the same bytes again.
+//! Fixed lists of the original's answers, which the Rattle program `cases` replays
+//! with no Rust at hand. A line is one case: its kind, what is asked, and the
+//! original's answers, unsigned decimals with one space between; crates/cases/src
+//! says for each kind what the numbers are. The same command gives the same bytes
+//! again.
 use crate::{
     clock::{edge_micros, random_clock, random_edges, random_moment, sweep},
     paper::edge,
@@ -14,7 +15,6 @@ use original::{
     ask::{caught, voltage::Question as Voltage},
     devices::nt7508::LcdVoltages,
 };
-use std::fmt::Write;
 
 /// An absent voltage: one more than the largest present one.
 const ABSENT: u64 = 1 << 32;
@@ -22,7 +22,6 @@ const ABSENT: u64 = 1 << 32;
 pub struct List {
     original: Original,
     body: String,
-    count: u64,
 }
 
 impl List {
@@ -30,7 +29,6 @@ impl List {
         Self {
             original: Original::new(),
             body: String::new(),
-            count: 0,
         }
     }
     /// The original's answer to a question, or none if it panics.
@@ -46,14 +44,9 @@ impl List {
         let words: Vec<String> = numbers.iter().map(u64::to_string).collect();
         self.body.push_str(&words.join(" "));
         self.body.push('\n');
-        self.count += 1;
     }
-    pub fn print(self, head: &str) -> bool {
-        let mut text = String::new();
-        for line in head.lines() {
-            writeln!(text, "# {line}").expect("a string takes every line");
-        }
-        print!("{text}# {} cases\n{}", self.count, self.body);
+    pub fn print(self) -> bool {
+        print!("{}", self.body);
         true
     }
 }
@@ -121,16 +114,6 @@ fn advance(list: &mut List, question: Advance) {
     list.line(&numbers);
 }
 
-const CLOCK_HEAD: &str = "\
-Answers of the original clock (lumirth/hachistep 2ed2598872, time.rs), asked by oracle/.
-A wide number is two words, its seconds and its 64-bit fraction of a second.
-1 us | seconds fraction: microseconds as time
-2 at.s at.f p q | whole.s whole.f remainder denominator fraction ordinal: new clock of p/q Hz
-3 at.s at.f p q fraction ordinal now.s now.f | edges: edges up to and including now
-4 at.s at.f p q fraction ordinal edges | at.s at.f fraction ordinal: clock moved by edges
-at is the last edge, and fraction counts p-ths of a fraction unit. There is no | in a line.
-Times of kinds 2 to 4 are below 2^32 s, before and after; p/q is an LCD rate.";
-
 /// How many of the sweep's clocks to pass over so that about `count` lines are
 /// left, four from each clock. It has no divisor in common with the lengths of
 /// the sweep's lists, so that every part of each list comes up.
@@ -181,9 +164,7 @@ pub fn clock(seed: u64, count: u64) -> bool {
     for _ in 0..count / 3 {
         any(&mut list, &mut random);
     }
-    list.print(&format!(
-        "{CLOCK_HEAD}\nMade by: oracle/run cases, which calls compare cases clock {count} --seed {seed}"
-    ))
+    list.print()
 }
 
 /// A clock moved to an edge, and asked just before the edge, at it and after.
@@ -239,7 +220,8 @@ fn voltage_line(list: &mut List, question: Voltage) {
     let Some(voltages) = list.ask(&question) else {
         return;
     };
-    let mut numbers: Vec<u64> = question.settings.map(u64::from).to_vec();
+    let mut numbers = vec![5];
+    numbers.extend(question.settings.map(u64::from));
     numbers.push(u64::from(question.supply));
     numbers.push(u64::from(unsigned(question.temperature)));
     numbers.push(u64::from(question.power_save));
@@ -247,13 +229,6 @@ fn voltage_line(list: &mut List, question: Voltage) {
     numbers.extend(volts(&voltages));
     list.line(&numbers);
 }
-
-const VOLTAGE_HEAD: &str = "\
-Answers of the original voltages (lumirth/hachistep 2ed2598872, voltage.rs), asked by oracle/.
-contrast regulator power_control booster bias slope trim otp supply temperature power_save waiting
-| target pump v0 v1 v2 v3 v4, all on one line and without the |
-supply in mV; temperature in millidegrees C plus 2147483648 (2^31); power_save and waiting 0 or 1;
-answers in microvolts, 4294967296 where there is none.";
 
 /// The voltage questions of P1 to P5 of document 01.
 pub fn edge_figures() -> Vec<Voltage> {
@@ -302,5 +277,5 @@ pub fn voltage(seed: u64, count: u64) -> bool {
         let question = cornered(&mut random, settings, &temperatures(settings));
         voltage_line(&mut list, question);
     }
-    list.print(&format!("{VOLTAGE_HEAD}\nMade by: oracle/run cases, which calls compare cases voltage {count} --seed {seed}"))
+    list.print()
 }

@@ -1,29 +1,121 @@
-//! What the scan layer reads of a controller, in the form in which our library
-//! takes it, and the way from and to the original's states by their images.
-use crate::{
-    ours::{clock_words, words},
-    side::ClockState,
-};
-use original::ask::controller::Controller;
+//! What the scan layer reads of a controller: its fields under the original's
+//! names, in the groups of the controller's state, and the way from and to the
+//! original's states by their images. `chip_words.rs` has the form in which our
+//! library takes it.
+use crate::side::ClockState;
+use original::ask::{clock::Parts, controller::Controller};
 
 #[derive(Clone, Copy, Debug, PartialEq, Eq)]
 pub struct Chip {
-    /// start_line, icon_enabled, entire_on, reverse, segment_reverse,
-    /// common_reverse, initial_com, duty, inversion_lines, gray_mode, palette
-    /// (8), oscillator_control, oscillator_frequency.
-    pub settings: [u8; 20],
-    pub analog: [u8; 8],
-    /// Whether the clock runs, its eight words, the rate, the latch.
-    pub words: [u64; 13],
-    /// duty, icon, initial_com, common_reverse, start_line, pwm, frc_count,
-    /// row, step, frc, inversion_lines, inversion_count, inverted, latched.
-    pub bytes: [u8; 14],
+    pub display: Display,
+    pub analog: Analog,
+    pub power: Power,
+    pub scan: Scan,
+}
+
+/// The settings that the scan and the image read.
+#[derive(Clone, Copy, Debug, PartialEq, Eq)]
+pub struct Display {
+    pub start_line: u8,
+    pub icon_enabled: bool,
+    pub entire_on: bool,
+    pub reverse: bool,
+    pub segment_reverse: bool,
+    pub common_reverse: bool,
+    pub initial_com: u8,
+    pub duty: u8,
+    pub inversion_lines: u8,
+    pub gray_mode: u8,
+    pub palette: [u8; 8],
+    pub oscillator_control: u8,
+    pub oscillator_frequency: u8,
+}
+
+/// The settings that the voltages read.
+#[derive(Clone, Copy, Debug, PartialEq, Eq)]
+pub struct Analog {
+    pub contrast: u8,
+    pub regulator: u8,
+    pub power_control: u8,
+    pub booster: u8,
+    pub bias: u8,
+    pub temperature_slope: u8,
+    pub contrast_trim: u8,
+    pub otp_control: u8,
+}
+
+/// What decides whether the scan runs and the glass is driven.
+#[derive(Clone, Copy, Debug, PartialEq, Eq)]
+pub struct Power {
     pub display_on: bool,
-    pub oscillator_enabled: bool,
     pub power_save: bool,
+    pub oscillator_enabled: bool,
+    pub supply_millivolts: u16,
+    pub temperature_millicelsius: i32,
+    /// Whether `ready` holds a time.
     pub waiting: bool,
-    pub supply: u16,
-    pub temperature: i32,
+}
+
+#[derive(Clone, Copy, Debug, PartialEq, Eq)]
+pub struct Scan {
+    pub clock: Option<Parts>,
+    pub rate: (u64, u64),
+    pub duty: u8,
+    pub icon: bool,
+    pub initial_com: u8,
+    pub common_reverse: bool,
+    pub start_line: u8,
+    pub pwm: u8,
+    pub frc_count: u8,
+    pub row: u8,
+    pub step: u8,
+    pub frc: u8,
+    pub inversion_lines: u8,
+    pub inversion_count: u8,
+    pub inverted: bool,
+    pub segments: [u64; 2],
+    pub latched: bool,
+}
+
+impl Display {
+    pub fn pwm(&self) -> u8 {
+        [9, 9, 12, 15][usize::from(self.gray_mode % 4)]
+    }
+    pub fn frc_count(&self) -> u8 {
+        4 - self.gray_mode / 4
+    }
+}
+
+impl Power {
+    /// Whether the oscillator and power save let the scan run.
+    pub fn running(&self) -> bool {
+        self.oscillator_enabled && !self.power_save
+    }
+    /// Document 01's driven.
+    pub fn driven(&self) -> bool {
+        self.supply_millivolts >= 2400 && !self.waiting && self.display_on && self.running()
+    }
+}
+
+impl Scan {
+    pub fn rows(&self) -> u8 {
+        self.duty + u8::from(self.icon)
+    }
+    /// The clock as document 01 sees it, with the rate of the scan.
+    pub fn clock_state(&self) -> Option<ClockState> {
+        self.clock.map(|clock| ClockState {
+            at: clock.at,
+            p: self.rate.0,
+            q: self.rate.1,
+            fraction: clock.fraction,
+            ordinal: clock.ordinal,
+        })
+    }
+    /// Puts in a clock and its rate.
+    pub fn put_clock(&mut self, clock: ClockState) {
+        self.clock = Some(clock.parts());
+        self.rate = (clock.p, clock.q);
+    }
 }
 
 /// The image of a state, read from its start.
@@ -44,8 +136,8 @@ impl Reader<'_> {
     fn word(&mut self) -> u64 {
         u64::from_le_bytes(self.take())
     }
-    fn wide(&mut self) -> [u64; 2] {
-        words(u128::from_le_bytes(self.take()))
+    fn wide(&mut self) -> u128 {
+        u128::from_le_bytes(self.take())
     }
     /// Passes over an Option of N bytes; whether it holds something.
     fn option<const N: usize>(&mut self) -> bool {
@@ -55,181 +147,204 @@ impl Reader<'_> {
         }
         some
     }
-    fn scan(&mut self) -> ([u64; 13], [u8; 14]) {
-        let mut words = [0; 13];
-        if self.mark() {
-            words[0] = 1;
-            words[1..3].copy_from_slice(&self.wide());
-            words[3..5].copy_from_slice(&self.wide());
-            (5..9).for_each(|index| words[index] = self.word());
+    fn clock(&mut self) -> Option<Parts> {
+        self.mark().then(|| Parts {
+            at: self.wide(),
+            whole: self.wide(),
+            remainder: self.word(),
+            denominator: self.word(),
+            fraction: self.word(),
+            ordinal: self.word(),
+        })
+    }
+    /// The fields in declaration order, which is that of the image.
+    fn scan(&mut self) -> Scan {
+        Scan {
+            clock: self.clock(),
+            rate: (self.word(), self.word()),
+            duty: self.byte(),
+            icon: self.mark(),
+            initial_com: self.byte(),
+            common_reverse: self.mark(),
+            start_line: self.byte(),
+            pwm: self.byte(),
+            frc_count: self.byte(),
+            row: self.byte(),
+            step: self.byte(),
+            frc: self.byte(),
+            inversion_lines: self.byte(),
+            inversion_count: self.byte(),
+            inverted: self.mark(),
+            segments: [self.word(), self.word()],
+            latched: self.mark(),
         }
-        (9..11).for_each(|index| words[index] = self.word());
-        let mut bytes = [0; 14];
-        bytes[..13].copy_from_slice(&self.take::<13>());
-        (11..13).for_each(|index| words[index] = self.word());
-        bytes[13] = self.byte();
-        (words, bytes)
     }
 }
 
-/// The scan of a state: its words and bytes.
-pub fn scan_of(state: &Controller) -> ([u64; 13], [u8; 14]) {
+/// The scan of a state.
+pub fn scan_of(state: &Controller) -> Scan {
     let part = Controller::part("scan").expect("a field");
     Reader(&state.get(&part).expect("a field")).scan()
 }
 
+/// An image, written from its start.
+struct Writer(Vec<u8>);
+
+impl Writer {
+    fn mark(&mut self, mark: bool) {
+        self.0.push(u8::from(mark));
+    }
+    fn words(&mut self, words: &[u64]) {
+        words
+            .iter()
+            .for_each(|word| self.0.extend(word.to_le_bytes()));
+    }
+    fn scan(&mut self, scan: &Scan) {
+        self.mark(scan.clock.is_some());
+        if let Some(clock) = scan.clock {
+            self.0.extend(clock.at.to_le_bytes());
+            self.0.extend(clock.whole.to_le_bytes());
+            self.words(&[clock.remainder, clock.denominator]);
+            self.words(&[clock.fraction, clock.ordinal]);
+        }
+        self.words(&[scan.rate.0, scan.rate.1]);
+        self.0.extend([
+            scan.duty,
+            u8::from(scan.icon),
+            scan.initial_com,
+            u8::from(scan.common_reverse),
+            scan.start_line,
+            scan.pwm,
+            scan.frc_count,
+            scan.row,
+            scan.step,
+            scan.frc,
+            scan.inversion_lines,
+            scan.inversion_count,
+            u8::from(scan.inverted),
+        ]);
+        self.words(&scan.segments);
+        self.mark(scan.latched);
+    }
+}
+
 impl Chip {
+    /// The fields are read in the order of the image, which is that of their
+    /// declaration in the original.
     pub fn of(state: &Controller) -> Self {
         let image = state.image();
         let mut image = Reader(&image[4096 + 256..]);
         image.take::<4>(); // selected, data, shift, bits
         image.option::<1>(); // pending
-        image.take::<3>(); // page, column
-        let [start, icon] = image.take();
+        image.take::<3>(); // page, column_byte
+        let (start_line, icon_enabled) = (image.byte(), image.mark());
         let display_on = image.mark();
-        let [entire, reverse, segment, common] = image.take();
+        let [entire_on, reverse, segment_reverse, common_reverse] =
+            image.take().map(|mark: u8| mark != 0);
         let power_save = image.mark();
         let contrast = image.byte();
-        image.option::<2>(); // saved column
-        let [first, duty, lines, regulator, power, booster, bias, gray] = image.take();
-        let palette: [u8; 8] = image.take();
-        let [slope, control, frequency, trim, otp] = image.take();
+        image.option::<2>(); // saved_column
+        let [initial_com, duty, inversion_lines] = image.take();
+        let [regulator, power_control, booster, bias] = image.take();
+        let gray_mode = image.byte();
+        let palette = image.take();
+        let temperature_slope = image.byte();
+        let [oscillator_control, oscillator_frequency] = image.take();
+        let [contrast_trim, otp_control] = image.take();
         let oscillator_enabled = image.mark();
-        let (words, bytes) = image.scan();
+        let scan = image.scan();
         image.byte(); // supplied
-        let supply = u16::from_le_bytes(image.take());
-        let temperature = i32::from_le_bytes(image.take());
+        let supply_millivolts = u16::from_le_bytes(image.take());
+        let temperature_millicelsius = i32::from_le_bytes(image.take());
         image.byte(); // cold
         let waiting = image.option::<16>();
-        let mut settings = [
-            start, icon, entire, reverse, segment, common, first, duty, lines, gray, 0, 0, 0, 0, 0,
-            0, 0, 0, control, frequency,
-        ];
-        settings[10..18].copy_from_slice(&palette);
         Self {
-            settings,
-            analog: [contrast, regulator, power, booster, bias, slope, trim, otp],
-            words,
-            bytes,
-            display_on,
-            oscillator_enabled,
-            power_save,
-            waiting,
-            supply,
-            temperature,
+            display: Display {
+                start_line,
+                icon_enabled,
+                entire_on,
+                reverse,
+                segment_reverse,
+                common_reverse,
+                initial_com,
+                duty,
+                inversion_lines,
+                gray_mode,
+                palette,
+                oscillator_control,
+                oscillator_frequency,
+            },
+            analog: Analog {
+                contrast,
+                regulator,
+                power_control,
+                booster,
+                bias,
+                temperature_slope,
+                contrast_trim,
+                otp_control,
+            },
+            power: Power {
+                display_on,
+                power_save,
+                oscillator_enabled,
+                supply_millivolts,
+                temperature_millicelsius,
+                waiting,
+            },
+            scan,
         }
-    }
-    fn scan_image(&self, image: &mut Vec<u8>) {
-        let wide = |high: u64, low: u64| (u128::from(high) << 64 | u128::from(low)).to_le_bytes();
-        let words = &self.words;
-        image.push(u8::from(words[0] != 0));
-        if words[0] != 0 {
-            image.extend(wide(words[1], words[2]));
-            image.extend(wide(words[3], words[4]));
-            words[5..9]
-                .iter()
-                .for_each(|word| image.extend(word.to_le_bytes()));
-        }
-        words[9..11]
-            .iter()
-            .for_each(|word| image.extend(word.to_le_bytes()));
-        image.extend(&self.bytes[..13]);
-        words[11..13]
-            .iter()
-            .for_each(|word| image.extend(word.to_le_bytes()));
-        image.push(self.bytes[13]);
     }
     /// A selected controller in this state, with this memory.
     pub fn state(&self, ram: &[u8], icons: &[u8]) -> Controller {
-        let (settings, analog) = (&self.settings, &self.analog);
-        let mut image = Vec::with_capacity(4600);
-        image.extend(ram);
-        image.extend(icons);
-        image.extend([1, 0, 0, 0, 0, 0, 0, 0]); // selected, data, shift, bits, pending, page, column
-        image.extend(&settings[..2]);
-        image.push(u8::from(self.display_on));
-        image.extend(&settings[2..6]);
-        image.extend([u8::from(self.power_save), analog[0], 0]);
-        image.extend(&settings[6..9]);
-        image.extend(&analog[1..5]);
-        image.extend(&settings[9..18]);
-        image.extend([analog[5], settings[18], settings[19], analog[6], analog[7]]);
-        image.push(u8::from(self.oscillator_enabled));
-        self.scan_image(&mut image);
-        image.push(u8::from(self.supply >= 1650));
-        image.extend(self.supply.to_le_bytes());
-        image.extend(self.temperature.to_le_bytes());
-        image.push(0);
-        image.push(u8::from(self.waiting));
-        if self.waiting {
-            image.extend([0; 16]);
+        let Self {
+            display,
+            analog,
+            power,
+            scan,
+        } = self;
+        let mut image = Writer(Vec::with_capacity(4600));
+        image.0.extend(ram);
+        image.0.extend(icons);
+        // selected, data, shift, bits, pending, page, column_byte
+        image.0.extend([1, 0, 0, 0, 0, 0, 0, 0]);
+        image.0.push(display.start_line);
+        image.mark(display.icon_enabled);
+        image.mark(power.display_on);
+        image.mark(display.entire_on);
+        image.mark(display.reverse);
+        image.mark(display.segment_reverse);
+        image.mark(display.common_reverse);
+        image.mark(power.power_save);
+        image.0.extend([analog.contrast, 0]); // and saved_column
+        image.0.extend([
+            display.initial_com,
+            display.duty,
+            display.inversion_lines,
+            analog.regulator,
+            analog.power_control,
+            analog.booster,
+            analog.bias,
+            display.gray_mode,
+        ]);
+        image.0.extend(display.palette);
+        image.0.extend([
+            analog.temperature_slope,
+            display.oscillator_control,
+            display.oscillator_frequency,
+            analog.contrast_trim,
+            analog.otp_control,
+        ]);
+        image.mark(power.oscillator_enabled);
+        image.scan(scan);
+        image.mark(power.supply_millivolts >= 1650); // supplied
+        image.0.extend(power.supply_millivolts.to_le_bytes());
+        image.0.extend(power.temperature_millicelsius.to_le_bytes());
+        image.mark(false); // cold
+        image.mark(power.waiting);
+        if power.waiting {
+            image.0.extend([0; 16]);
         }
-        Controller::from_image(&image).expect("the image of a state")
-    }
-    /// Whether the oscillator and power save let the scan run.
-    pub fn running(&self) -> bool {
-        self.oscillator_enabled && !self.power_save
-    }
-    /// Document 01's driven.
-    pub fn driven(&self) -> bool {
-        self.supply >= 2400 && !self.waiting && self.display_on && self.running()
-    }
-    pub fn clock(&self) -> Option<ClockState> {
-        let words = &self.words;
-        (words[0] != 0).then(|| ClockState {
-            at: u128::from(words[1]) << 64 | u128::from(words[2]),
-            p: words[9],
-            q: words[10],
-            fraction: words[7],
-            ordinal: words[8],
-        })
-    }
-    /// Puts in a clock and its rate.
-    pub fn put_clock(&mut self, clock: Option<ClockState>) {
-        self.words[..9].fill(0);
-        if let Some(clock) = clock {
-            self.words[0] = 1;
-            self.words[1..9].copy_from_slice(&clock_words(&clock.parts()));
-            (self.words[9], self.words[10]) = (clock.p, clock.q);
-        }
-    }
-    /// All of it as numbers, for shrinking.
-    pub fn numbers(&self) -> Vec<u128> {
-        let bytes = [&self.settings[..], &self.analog, &self.bytes].concat();
-        let mut numbers: Vec<u128> = bytes.into_iter().map(u128::from).collect();
-        numbers.extend(self.words.map(u128::from));
-        let marks = [
-            self.display_on,
-            self.oscillator_enabled,
-            self.power_save,
-            self.waiting,
-        ];
-        numbers.extend(marks.map(u128::from));
-        numbers.extend([u128::from(self.supply), u128::from(self.temperature as u32)]);
-        numbers
-    }
-    /// The chip of such numbers.
-    pub fn of_numbers(numbers: &[u128]) -> Option<Self> {
-        let mut chip = Self::of(&Controller::new());
-        for (index, number) in numbers[..20].iter().enumerate() {
-            chip.settings[index] = u8::try_from(*number).ok()?;
-        }
-        for (index, number) in numbers[20..28].iter().enumerate() {
-            chip.analog[index] = u8::try_from(*number).ok()?;
-        }
-        for (index, number) in numbers[28..42].iter().enumerate() {
-            chip.bytes[index] = u8::try_from(*number).ok()?;
-        }
-        for (index, number) in numbers[42..55].iter().enumerate() {
-            chip.words[index] = u64::try_from(*number).ok()?;
-        }
-        let mark = |index: usize| numbers[index] != 0;
-        chip.display_on = mark(55);
-        chip.oscillator_enabled = mark(56);
-        chip.power_save = mark(57);
-        chip.waiting = mark(58);
-        chip.supply = u16::try_from(numbers[59]).ok()?;
-        chip.temperature = u32::try_from(numbers[60]).ok()? as i32;
-        Some(chip)
+        Controller::from_image(&image.0).expect("the image of a state")
     }
 }

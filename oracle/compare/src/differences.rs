@@ -1,13 +1,16 @@
 //! Where ours is meant to answer otherwise than the original, for the clock,
-//! the voltages and the scan: each by its smallest input, run again on both sides, so that
-//! the list in docs/DIFFERENCES.md cannot go stale. All of these inputs fail
-//! document 01's checks, which ours makes at each call.
+//! the voltages and the scan: each by its smallest input, run again on both
+//! sides, so that the list in docs/DIFFERENCES.md cannot go stale. All of these
+//! inputs fail document 01's checks, which ours makes at each call. The original
+//! is built with overflow checks; where it panics only by them, the input says
+//! so, with its answer when built without.
 use crate::{
     any::{Checked, Refused},
     chip::Chip,
+    chip_words::ChipWords,
+    ffi_scan::{self, Lent},
     findings::outcome,
     ours::Ours,
-    ours_scan::{self, Lent},
     side::{ClockState, END},
     voltage::plain,
 };
@@ -98,34 +101,44 @@ fn clocks() -> Vec<Difference> {
     };
     vec![
         new(
-            "new: rate 1/1, no LCD rate",
+            "new at 0: rate 1/1, no LCD rate",
             0,
             (1, 1),
             ("Ok(18446744073709551616)", 4),
         ),
-        new("new: rate 0/1", 0, (0, 1), ("Err(ZeroFrequency)", 4)),
+        new("new at 0: rate 0/1", 0, (0, 1), ("Err(ZeroFrequency)", 4)),
         new(
-            "new: at 2^32 s",
+            "new at 2^32 s: rate 16128/1",
             END,
             (16_128, 1),
             ("Ok(1143771333935364)", 1),
         ),
-        edges("edges up to 2^32 s", slow(), END, ("69269232549888", 1)),
         edges(
-            "edges: fraction p",
+            "edges up to 2^32 s: 16128 Hz from 0",
+            slow(),
+            END,
+            ("69269232549888", 1),
+        ),
+        edges(
+            "edges up to 0: 16128 Hz from 0, fraction 16128 (without overflow checks 2^64 - 1)",
             fraction,
             0,
             ("panic: attempt to subtract with overflow", 5),
         ),
-        edges("edges: ordinal 1 at 0", ordinal, 0, ("0", 5)),
         edges(
-            "edges: clock of 17136 Hz with rate 16128/1",
+            "edges up to 0: 16128 Hz from 0, ordinal 1",
+            ordinal,
+            0,
+            ("0", 5),
+        ),
+        edges(
+            "edges up to 0: clock of 17136 Hz from 0 with the rate 16128/1",
             other.parts(),
             0,
             ("0", 5),
         ),
         differs(
-            "advance: 16128 x 2^32 edges, to 2^32 s",
+            "advance: 16128 Hz from 0 by 16128 x 2^32 edges, to 2^32 s",
             moved,
             Ours.try_move(&slow(), 16_128, 1, FAR),
             ("Ok(79228162514264337593543950336)", 1),
@@ -133,7 +146,8 @@ fn clocks() -> Vec<Difference> {
     ]
 }
 
-/// The target with one setting out of its range and the others 0.
+/// The target at 25 degrees with one setting out of its range and the others 0,
+/// contrast and regulator among them.
 fn voltage(input: &'static str, index: usize, setting: u8, recorded: Recorded) -> Difference {
     let mut settings = [0; 8];
     settings[index] = setting;
@@ -148,9 +162,14 @@ fn voltage(input: &'static str, index: usize, setting: u8, recorded: Recorded) -
 
 fn voltages() -> Vec<Difference> {
     vec![
-        voltage("voltages: contrast 64", 0, 64, ("4853000", 3)),
         voltage(
-            "voltages: regulator 8",
+            "target at 25 C, regulator 0: contrast 64",
+            0,
+            64,
+            ("4853000", 3),
+        ),
+        voltage(
+            "target at 25 C, contrast 0: regulator 8",
             1,
             8,
             (
@@ -158,16 +177,47 @@ fn voltages() -> Vec<Difference> {
                 3,
             ),
         ),
-        voltage("voltages: power control 8", 2, 8, ("3381000", 3)),
-        voltage("voltages: booster 4", 3, 4, ("3381000", 3)),
-        voltage("voltages: bias 8", 4, 8, ("3381000", 3)),
-        voltage("voltages: slope 2", 5, 2, ("3381000", 3)),
-        voltage("voltages: trim 16", 6, 16, ("3381000", 3)),
-        voltage("voltages: OTP control 4", 7, 4, ("3381000", 3)),
+        voltage(
+            "target at 25 C, regulator 0, contrast 0: power control 8",
+            2,
+            8,
+            ("3381000", 3),
+        ),
+        voltage(
+            "target at 25 C, regulator 0, contrast 0: booster 4",
+            3,
+            4,
+            ("3381000", 3),
+        ),
+        voltage(
+            "target at 25 C, regulator 0, contrast 0: bias 8",
+            4,
+            8,
+            ("3381000", 3),
+        ),
+        voltage(
+            "target at 25 C, regulator 0, contrast 0: slope 2",
+            5,
+            2,
+            ("3381000", 3),
+        ),
+        voltage(
+            "target at 25 C, regulator 0, contrast 0: trim 16",
+            6,
+            16,
+            ("3381000", 3),
+        ),
+        voltage(
+            "target at 25 C, regulator 0, contrast 0: OTP control 4",
+            7,
+            4,
+            ("3381000", 3),
+        ),
     ]
 }
 
-/// Power-on with its scan running from 0, changed, and driven at a moment.
+/// Power-on with the display on and its scan running from 0 at 129024 Hz,
+/// changed, and driven at a moment. The answer is the common.
 fn driven(
     input: &'static str,
     change: impl FnOnce(&mut Chip),
@@ -175,14 +225,15 @@ fn driven(
     recorded: Recorded,
 ) -> Difference {
     let mut chip = Chip::of(&Controller::new());
-    chip.put_clock(Some(ClockState {
+    chip.scan.put_clock(ClockState {
         at: 0,
         p: 129_024,
         q: 1,
         fraction: 0,
         ordinal: 0,
-    }));
-    (chip.display_on, chip.oscillator_enabled) = (true, true);
+    });
+    chip.power.display_on = true;
+    chip.power.oscillator_enabled = true;
     change(&mut chip);
     let (ram, icons) = ([0; 4096], [0; 256]);
     let state = chip.state(&ram, &icons);
@@ -190,7 +241,7 @@ fn driven(
         ram: &ram,
         icons: &icons,
     };
-    let ours = match ours_scan::drive(&chip, now, lent, &mut [0; 12]) {
+    let ours = match ffi_scan::drive(&ChipWords::of(&chip), now, lent, &mut [0; 12], &mut 0) {
         0 => Ok(()),
         number => Err(number),
     };
@@ -202,43 +253,47 @@ fn driven(
     )
 }
 
+fn clock_of(chip: &mut Chip) -> &mut Parts {
+    chip.scan.clock.as_mut().expect("a clock that runs")
+}
+
 fn scans() -> Vec<Difference> {
     let second = 1 << 64;
     vec![
-        driven("drive: at 2^32 s", |_| (), END, ("Ok(Some(0))", 1)),
+        driven("drive at 2^32 s", |_| (), END, ("Ok(Some(0))", 1)),
         driven(
-            "drive: scan's rate 1/1, no LCD rate",
-            |chip| (chip.words[9], chip.words[10]) = (1, 1),
+            "drive at 1 s: the scan's rate 1/1, no LCD rate",
+            |chip| chip.scan.rate = (1, 1),
             second,
             ("Ok(Some(0))", 4),
         ),
         driven(
-            "drive: ordinal 1 at 0",
-            |chip| chip.words[8] = 1,
+            "drive at 1 s: ordinal 1, last edge at 0",
+            |chip| clock_of(chip).ordinal = 1,
             second,
             ("Ok(Some(0))", 5),
         ),
         driven(
-            "drive: clock of another rate than the scan's",
-            |chip| chip.words[9] = 128_016,
+            "drive at 1 s: the scan's rate 128016/1, its clock of 129024 Hz",
+            |chip| chip.scan.rate.0 = 128_016,
             second,
             ("Ok(Some(0))", 5),
         ),
         driven(
-            "drive: fraction p",
-            |chip| chip.words[7] = 129_024,
+            "drive at 1 s: fraction 129024",
+            |chip| clock_of(chip).fraction = 129_024,
             second,
             ("Ok(Some(127))", 5),
         ),
         driven(
-            "drive: scan's row 129",
-            |chip| chip.bytes[7] = 129,
+            "drive at 0: the scan's row 129",
+            |chip| chip.scan.row = 129,
             0,
             ("Ok(Some(1))", 4),
         ),
         driven(
-            "drive: gray mode 8",
-            |chip| chip.settings[9] = 8,
+            "drive at 1 s: gray mode 8",
+            |chip| chip.display.gray_mode = 8,
             second,
             ("Ok(Some(0))", 3),
         ),

@@ -1,7 +1,8 @@
 //! What surprised in the original, each by the smallest input found and run
 //! again here, so that the list cannot go stale. All but the one on a dark
 //! controller's serial edges fail document 01's checks; they are the reasons
-//! for the checks that it adds.
+//! for the checks that it adds. Panics that come only by overflow checks, with
+//! which the original is built here, say so.
 use crate::{random::Random, side::ClockState, state::clock_image};
 use original::{
     ask::{
@@ -88,7 +89,7 @@ fn serial() -> Vec<Finding> {
     };
     vec![
         Finding {
-            input: "shift_in: 7 bits held, then 9 bits 0",
+            input: "shift_in: 7 bits held, then 9 bits 0 (without overflow checks Ok)",
             came: outcome(|| with("bits", &[7]).shift_in(0, 9, 0)),
             found: "panic: attempt to shift right with overflow",
         },
@@ -103,7 +104,7 @@ fn serial() -> Vec<Finding> {
             found: "Some(128)",
         },
         Finding {
-            input: "serial_effect_edges: bits 8 (turned down by validate), clock low",
+            input: "serial_effect_edges: bits 8 (turned down by validate), clock low (without overflow checks 255)",
             came: outcome(|| with("bits", &[8]).serial_effect_edges(false)),
             found: "panic: attempt to subtract with overflow",
         },
@@ -193,7 +194,7 @@ fn settings() -> Vec<Finding> {
     };
     vec![
         Finding {
-            input: "voltages: regulator 8",
+            input: "voltages: regulator 8, the other settings 0, at 25 C",
             came: outcome(regulator),
             found: "panic: index out of bounds: the len is 8 but the index is 8",
         },
@@ -203,12 +204,12 @@ fn settings() -> Vec<Finding> {
             found: "()",
         },
         Finding {
-            input: "render: first common 161",
+            input: "render: first common 161 (without overflow checks no panic)",
             came: lit(161),
             found: "panic: attempt to subtract with overflow",
         },
         Finding {
-            input: "data byte: column 65535",
+            input: "data byte: column 65535 (without overflow checks Ok)",
             came: outcome(write),
             found: "panic: attempt to add with overflow",
         },
@@ -229,7 +230,7 @@ fn clocks() -> Vec<Finding> {
         move |parts: Parts, limit| outcome(|| clock::edges_before(&clock::clock(&parts), limit));
     vec![
         Finding {
-            input: "edges_before: 1 Hz from 0, fraction 1 (not below its denominator), limit 1",
+            input: "edges_before: 1 Hz from 0, fraction 1 (not below its denominator), limit 1 (without overflow checks 2^64 - 1)",
             came: edges(Parts { fraction: 1, ..hertz }, 1),
             found: "panic: attempt to subtract with overflow",
         },

@@ -3,22 +3,25 @@ mod any;
 mod cases;
 mod cases_scan;
 mod chip;
+mod chip_words;
 mod clock;
 mod compare;
+mod compare_scan;
 mod damaged;
+mod damaged_scan;
 mod differences;
+mod ffi;
+mod ffi_scan;
 mod findings;
+mod fuzz;
+mod original_scan;
 mod ours;
-mod ours_scan;
 mod paper;
 mod paper_checks;
 mod paper_scan;
 mod question;
 mod random;
 mod rates;
-mod scan;
-mod scan_damaged;
-mod scan_ours;
 mod selfcheck;
 mod shrink;
 mod side;
@@ -33,22 +36,25 @@ use side::{Original, Side};
 use std::process::ExitCode;
 
 const USAGE: &str = "\
+Ours, with the original and with document 01's table of refusals:
+compare clock ours [COUNT]              the clock; COUNT random rounds (1000000)
+compare voltage ours [ROUNDS]           the voltages; 33554432 settings a round (3)
+compare scan ours [COUNT]               scan, drive and image from COUNT states (200000), and from a
+                                        tenth as many that calls reach
+compare controller ours                 not yet
+compare differences                     where ours is meant to answer otherwise than the original
+The original alone:
 compare selfcheck                       show that the oracle answers as document 01 says
 compare findings                        the surprises of the original, each by its smallest input
-compare differences                     where ours is meant to answer otherwise than the original
 compare fuzz [COUNT]                    damaged states that its validate accepts, run for panics
-compare clock SIDE [COUNT]              compare the clock; COUNT random rounds (1000000)
-compare voltage SIDE [ROUNDS]           compare the voltages; 33554432 settings a round (3)
-compare scan SIDE [COUNT]               compare scan, drive and image from COUNT states (paper 20000;
-                                        ours 200000, a tenth of them more by calls)
-compare controller SIDE                 not yet
+compare clock|voltage|scan paper [COUNT]
+                                        with document 01's rules, plainly written (scan 20000)
+Besides:
 compare cases clock|voltage|scan [COUNT]
                                         write a fixed list of the original's answers: some hundred,
                                         and COUNT random ones (clock 2000, and as many boundaries;
                                         voltage 4000; scan 900)
 compare speed                           how long a call takes, the original and ours
-SIDE is ours (the proved libraries) or paper (document 01's rules, plainly written). With ours,
-numbers outside the limits are compared too: ours with the refusals of document 01's table.
 --seed N anywhere sets the seed of every random choice (default 7508).
 Exit: 0 no difference; 1 a difference, a panic, or nothing compared; 2 bad usage; 3 not joined yet.";
 
@@ -98,7 +104,7 @@ fn command() -> ExitCode {
         ("differences", None, _) => code(differences::run()),
         ("speed", None, _) => code(speed::run(seed)),
         ("fuzz", count, _) => match number(count) {
-            Ok(count) => code(state::fuzz(seed, count.unwrap_or(200_000))),
+            Ok(count) => code(fuzz::run(seed, count.unwrap_or(200_000))),
             Err(_) => usage(),
         },
         ("cases", Some("clock"), Ok(count)) => code(cases::clock(seed, count.unwrap_or(2000))),
@@ -127,7 +133,7 @@ fn against(layer: &str, side: &str, count: Option<u64>, seed: u64) -> ExitCode {
     match (layer, side) {
         ("clock", "paper") => clock_with(paper::Paper, random, count),
         ("voltage", "paper") => voltage_with(paper::Paper, random, count),
-        ("scan", "paper") => code(scan::run(&mut random, count.unwrap_or(20_000))),
+        ("scan", "paper") => code(original_scan::run(&mut random, count.unwrap_or(20_000))),
         ("clock", "ours") => {
             let mut any = Compare::new(paper::Paper, ours::Ours);
             damaged::clocks(&mut any, &mut random, count.unwrap_or(CLOCKS));
@@ -140,8 +146,8 @@ fn against(layer: &str, side: &str, count: Option<u64>, seed: u64) -> ExitCode {
         }
         ("scan", "ours") => {
             let count = count.unwrap_or(STATES);
-            let refusals = scan_damaged::run(&mut random, count);
-            both(refusals, code(scan_ours::run(&mut random, count)))
+            let refusals = damaged_scan::run(&mut random, count);
+            both(refusals, code(compare_scan::run(&mut random, count)))
         }
         (_, "paper" | "ours") => {
             println!("original = {side}: {layer}: not joined yet, 0 inputs compared");

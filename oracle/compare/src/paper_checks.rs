@@ -2,7 +2,7 @@
 //! finder, plainly written. Checks run in the table's order.
 use crate::{
     any::{Checked, Pair, Refused},
-    chip::Chip,
+    chip::{Chip, Display, Scan},
     paper::{edge, target_at, Paper},
     rates::RATES,
     side::{ClockState, Side, END},
@@ -127,44 +127,44 @@ impl Checked for Paper {
 }
 
 /// Number 3, of the settings that the scan reads.
-pub fn scan_settings(settings: &[u8; 20]) -> Refused<()> {
-    let [start, _, _, _, _, _, first, duty, lines, gray, ..] = *settings;
-    let good = start < 128
-        && first < 128
-        && (16..=128).contains(&duty)
+pub fn display(display: &Display) -> Refused<()> {
+    let lines = display.inversion_lines;
+    let good = display.start_line < 128
+        && display.initial_com < 128
+        && (16..=128).contains(&display.duty)
         && (lines == 0 || (3..=33).contains(&lines))
-        && gray < 8
-        && settings[18] < 4
-        && settings[19] < 32;
+        && display.gray_mode < 8
+        && display.oscillator_control < 4
+        && display.oscillator_frequency < 32;
     good.then_some(()).ok_or(3)
 }
 
 /// Numbers 4 and 5 of a scan.
-pub fn scan(words: &[u64; 13], bytes: &[u8; 14]) -> Refused<()> {
-    let [duty, icon, first, _, start, pwm, phases, row, step, phase, lines, count, _, _] = *bytes;
-    let rows = u16::from(duty) + u16::from(icon != 0);
-    let good = RATES.contains(&(words[9], words[10]))
-        && (16..=128).contains(&duty)
-        && first < 128
-        && start < 128
-        && [9, 12, 15].contains(&pwm)
-        && step < pwm
-        && [3, 4].contains(&phases)
-        && phase < phases
-        && u16::from(row) < rows
+pub fn scan(scan: &Scan) -> Refused<()> {
+    let rows = u16::from(scan.duty) + u16::from(scan.icon);
+    let (lines, count) = (scan.inversion_lines, scan.inversion_count);
+    let (p, q) = scan.rate;
+    let good = (16..=128).contains(&scan.duty)
+        && scan.initial_com < 128
+        && scan.start_line < 128
+        && [9, 12, 15].contains(&scan.pwm)
+        && scan.step < scan.pwm
+        && [3, 4].contains(&scan.frc_count)
+        && scan.frc < scan.frc_count
+        && u16::from(scan.row) < rows
         && (lines == 0 || (3..=33).contains(&lines))
         && (lines == 0 || count < lines);
     good.then_some(()).ok_or(4u64)?;
-    if words[0] == 0 {
-        return Ok(());
+    rate(p, q)?;
+    match &scan.clock {
+        Some(parts) => clock(parts, p, q).map(|_| ()),
+        None => Ok(()),
     }
-    let parts = crate::ours::parts(words[1..9].try_into().expect("eight words"));
-    clock(&parts, words[9], words[10]).map(|_| ())
 }
 
 /// Whether no check turns the state of a scan layer down.
 pub fn accepted(chip: &Chip) -> bool {
-    scan_settings(&chip.settings).is_ok()
-        && settings(chip.analog).is_ok()
-        && scan(&chip.words, &chip.bytes).is_ok()
+    display(&chip.display).is_ok()
+        && settings(chip.analog.bytes()).is_ok()
+        && scan(&chip.scan).is_ok()
 }

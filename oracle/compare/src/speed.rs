@@ -1,11 +1,13 @@
-//! How long a call takes: the original and ours on the same inputs, and the
-//! original alone where ours is not joined. Inputs are made beforehand, fields
-//! of clocks and settings of controllers too, so that only the calls are timed.
+//! How long a call takes, the original and ours on the same inputs. Inputs are
+//! made beforehand, fields of clocks and settings of controllers too, and copies
+//! of what a call changes, so that only the calls are timed. Answers are shown
+//! to the compiler where they stand: a copy of them would be timed too.
 use crate::{
     chip::Chip,
+    chip_words::ChipWords,
     clock::{random_clock, random_edges, random_moment},
-    ours::{clock_words, raw, words},
-    ours_scan::{self, Lent},
+    ffi::{self, clock_words, words},
+    ffi_scan::{self, Lent},
     random::Random,
     side::{ClockState, END},
     valid,
@@ -16,93 +18,155 @@ use original::ask::{
     controller::{Controller, PIXELS},
     voltage::Bench,
 };
-use std::{hint::black_box, time::Instant};
+use std::{
+    hint::black_box,
+    time::{Duration, Instant},
+};
 
-/// Nanoseconds a call, over so many calls.
-fn nanoseconds<Q, T>(calls: usize, questions: &[Q], mut call: impl FnMut(&Q) -> T) -> f64 {
-    let rounds = calls / questions.len();
-    let start = Instant::now();
-    for _ in 0..rounds {
-        for question in questions {
-            black_box(call(black_box(question)));
-        }
-    }
-    start.elapsed().as_secs_f64() * 1e9 / (rounds * questions.len()) as f64
+/// Rounds of both sides, one after the other.
+const ROUNDS: usize = 15;
+
+/// How many nanoseconds the original works in a round, about.
+const ROUND: f64 = 8e7;
+
+/// How many calls were made, and how long they took.
+type Timed = (usize, Duration);
+
+/// Nanoseconds a call, of a side that makes about so many.
+fn a_call(side: &mut impl FnMut(usize) -> Timed, calls: usize) -> f64 {
+    let (made, time) = side(calls);
+    time.as_secs_f64() * 1e9 / made as f64
 }
 
-/// Both sides in turn, five times, and of each side the fastest: another
-/// program on the machine can only make a call slower.
-fn both<Q, T, U>(
+/// The median, and how far the rounds lie apart, in percent of it.
+fn median(mut rounds: Vec<f64>) -> (f64, f64) {
+    rounds.sort_by(f64::total_cmp);
+    let [least, middle, most] = [0, ROUNDS / 2, ROUNDS - 1].map(|index| rounds[index]);
+    (middle, (most - least) / middle * 100.0)
+}
+
+/// A line of the table: the medians of alternating rounds.
+fn line(
     name: &str,
-    questions: &[Q],
-    mut original: impl FnMut(&Q) -> T,
-    mut ours: impl FnMut(&Q) -> U,
+    mut original: impl FnMut(usize) -> Timed,
+    mut ours: impl FnMut(usize) -> Timed,
 ) {
-    let (mut first, mut second) = (f64::MAX, f64::MAX);
-    // As many calls as take the original some half a second.
-    let once = nanoseconds(2 * questions.len(), questions, &mut original);
-    let calls = ((5e8 / once) as usize).clamp(questions.len(), 20_000_000);
-    for _ in 0..5 {
-        first = first.min(nanoseconds(calls, questions, &mut original));
-        second = second.min(nanoseconds(calls, questions, &mut ours));
+    // The first calls are slow, and count in no round.
+    let calls = (ROUND / a_call(&mut original, 10_000)) as usize;
+    ours(10_000);
+    let (mut first, mut second) = (Vec::new(), Vec::new());
+    for _ in 0..ROUNDS {
+        first.push(a_call(&mut original, calls));
+        second.push(a_call(&mut ours, calls));
     }
-    println!("{name:24} {first:8.1} {second:8.1}");
+    let ((first, apart), (second, our_apart)) = (median(first), median(second));
+    let ratio = second / first;
+    println!("{name:36} {first:9.1} {second:9.1} {ratio:6.2} {apart:7.0}% {our_apart:7.0}%");
+}
+
+/// Calls over all questions again and again.
+fn timed<'a, Q>(
+    questions: &'a [Q],
+    mut call: impl FnMut(&Q) + 'a,
+) -> impl FnMut(usize) -> Timed + 'a {
+    move |calls| {
+        let rounds = calls.div_ceil(questions.len());
+        let start = Instant::now();
+        for _ in 0..rounds {
+            questions
+                .iter()
+                .for_each(|question| call(black_box(question)));
+        }
+        (rounds * questions.len(), start.elapsed())
+    }
+}
+
+/// Calls that change what they are given: on copies, made before the time is
+/// taken.
+fn timed_on_copies<'a, Q, C>(
+    questions: &'a [Q],
+    copy: impl Fn(&Q) -> C + 'a,
+    mut call: impl FnMut(&Q, &mut C) + 'a,
+) -> impl FnMut(usize) -> Timed + 'a {
+    move |calls| {
+        let rounds = calls.div_ceil(questions.len());
+        let mut time = Duration::ZERO;
+        for _ in 0..rounds {
+            let mut copies: Vec<C> = questions.iter().map(&copy).collect();
+            let all = black_box(&mut copies[..]);
+            let start = Instant::now();
+            for (question, copy) in questions.iter().zip(all) {
+                call(black_box(question), copy);
+            }
+            time += start.elapsed();
+            black_box(&copies);
+        }
+        (rounds * questions.len(), time)
+    }
 }
 
 /// The clock's functions. Ours checks the rate and the clock at each call.
 fn clocks(random: &mut Random) {
     let micros: Vec<u64> = (0..4096).map(|_| random.next()).collect();
-    both(
+    let mut out = [0; 2];
+    line(
         "microseconds",
-        &micros,
-        |us| clock::micros(*us),
-        |us| raw::micros(*us),
+        timed(&micros, |us| {
+            black_box(&clock::micros(*us));
+        }),
+        timed(&micros, |us| {
+            ffi::micros(*us, &mut out);
+            black_box(&out);
+        }),
     );
     let states: Vec<ClockState> = (0..4096).map(|_| random_clock(random)).collect();
     let mut out = [0; 8];
-    both(
+    line(
         "new",
-        &states,
-        |at| clock::new(at.at, at.p, at.q),
-        |at| (raw::new(words(at.at), at.p, at.q, &mut out), out),
+        timed(&states, |at| {
+            black_box(&clock::new(at.at, at.p, at.q));
+        }),
+        timed(&states, |at| {
+            black_box(ffi::new_clock(words(at.at), at.p, at.q, &mut out));
+            black_box(&out);
+        }),
     );
     let edges: Vec<_> = states
         .iter()
         .map(|state| {
             let parts = state.parts();
             let now = random_moment(random, state);
-            (
-                state,
-                clock::clock(&parts),
-                clock_words(&parts),
-                now,
-                random_edges(random, state),
-            )
+            let edges = random_edges(random, state);
+            (state, clock::clock(&parts), clock_words(&parts), now, edges)
         })
         .collect();
     let mut count = 0;
-    both(
+    line(
         "edges up to a moment",
-        &edges,
-        |(_, clock, _, now, _)| clock::edges_to(clock, *now),
-        |(at, _, clock, now, _)| {
-            (
-                raw::edges_to(clock, at.p, at.q, words(*now), &mut count),
-                count,
-            )
-        },
+        timed(&edges, |(_, clock, _, now, _)| {
+            black_box(clock::edges_to(clock, *now));
+        }),
+        timed(&edges, |(at, _, clock, now, _)| {
+            black_box(ffi::edges_to(clock, at.p, at.q, words(*now), &mut count));
+            black_box(&count);
+        }),
     );
-    both(
+    line(
         "advance",
-        &edges,
-        |(_, clock, _, _, edges)| {
-            let mut moved = *clock;
-            (clock::advance(&mut moved, *edges).is_ok(), moved)
-        },
-        |(at, _, clock, _, edges)| {
-            let mut moved = *clock;
-            (raw::moved(&mut moved, at.p, at.q, *edges), moved)
-        },
+        timed_on_copies(
+            &edges,
+            |(_, clock, ..)| *clock,
+            |(_, _, _, _, edges), clock| {
+                black_box(&clock::advance(clock, *edges));
+            },
+        ),
+        timed_on_copies(
+            &edges,
+            |(_, _, clock, ..)| *clock,
+            |(at, _, _, _, edges), clock| {
+                black_box(ffi::move_clock(clock, at.p, at.q, *edges));
+            },
+        ),
     );
 }
 
@@ -118,19 +182,34 @@ fn voltages(random: &mut Random) {
         })
         .collect();
     let mut out = [0; 7];
-    both(
+    line(
         "voltages",
-        &questions,
-        |(_, bench)| bench.controller().voltages(),
-        |(question, _)| (raw::voltages(question, &mut out), out),
+        timed(&questions, |(_, bench)| {
+            black_box(&bench.controller().voltages());
+        }),
+        timed(&questions, |(question, _)| {
+            black_box(ffi::voltages(question, &mut out));
+            black_box(&out);
+        }),
     );
 }
 
 /// A state of the scan layer as both sides hold it, and a moment.
 struct Scanned {
     state: Controller,
-    chip: Chip,
+    chip: ChipWords,
+    ram: Vec<u8>,
+    icons: Vec<u8>,
     now: u128,
+}
+
+impl Scanned {
+    fn lent(&self) -> Lent<'_> {
+        Lent {
+            ram: &self.ram,
+            icons: &self.icons,
+        }
+    }
 }
 
 /// 64 driven states, a second after their last edge, so that drives, images and
@@ -140,107 +219,151 @@ fn scanned(random: &mut Random) -> Vec<Scanned> {
     while all.len() < 64 {
         let chip = valid::chip(random);
         let (ram, icons) = valid::memory(random);
-        let now = chip.clock().map_or(0, |clock| clock.at + (1 << 64));
-        if chip.driven() && chip.settings[18] & 1 == 0 && 0 < now && now < END {
-            let state = chip.state(&ram, &icons);
-            all.push(Scanned { state, chip, now });
+        let now = chip.scan.clock.map_or(0, |clock| clock.at + (1 << 64));
+        let oscillates = chip.display.oscillator_control & 1 == 0;
+        if chip.power.driven() && oscillates && 0 < now && now < END {
+            all.push(Scanned {
+                state: chip.state(&ram, &icons),
+                chip: ChipWords::of(&chip),
+                ram,
+                icons,
+                now,
+            });
         }
     }
     all
 }
 
 /// Ours checks memory, time, settings, scan and clock at each call. The
-/// original's count is a fall of the supply on a copy of its state, 4,448 bytes.
+/// original counts by itself only within other calls, of which a fall of the
+/// supply does the least besides.
 fn scans(random: &mut Random) {
-    let states = scanned(random);
-    let lent = |at: &'_ Scanned| (at.state.ram().to_vec(), at.state.icons().to_vec());
-    let memory: Vec<_> = states.iter().map(lent).collect();
-    let all: Vec<_> = memory
-        .iter()
-        .map(|(ram, icons)| Lent { ram, icons })
-        .zip(&states)
-        .collect();
-    let mut out = [0; 12];
-    both(
-        "drive a second on",
-        &all,
-        |(_, at)| at.state.drive(at.now),
-        |(lent, at)| (ours_scan::drive(&at.chip, at.now, *lent, &mut out), out),
-    );
-    both(
-        "drive at the last edge",
-        &all,
-        |(_, at)| at.state.drive(at.now - (1 << 64)),
-        |(lent, at)| {
-            let now = at.now - (1 << 64);
-            (ours_scan::drive(&at.chip, now, *lent, &mut out), out)
-        },
-    );
-    both(
+    let all = scanned(random);
+    for (name, back) in [
+        ("drive a second on", 0),
+        ("drive at the last edge", 1 << 64),
+    ] {
+        let (mut out, mut frame) = ([0; 12], 0);
+        line(
+            name,
+            timed(&all, |at| {
+                black_box(&at.state.drive(at.now - back));
+            }),
+            timed(&all, |at| {
+                let now = at.now - back;
+                let lent = at.lent();
+                black_box(ffi_scan::drive(&at.chip, now, lent, &mut out, &mut frame));
+                black_box((&out, &frame));
+            }),
+        );
+    }
+    let fallen = || {
+        timed_on_copies(
+            &all,
+            |at| at.state.clone(),
+            |at, copy| copy.set_supply(1, at.now).expect("a fall"),
+        )
+    };
+    line(
         "count over a second",
-        &all,
-        |(_, at)| {
-            let mut copy = at.state.clone();
-            copy.set_supply(1, at.now).expect("a fall");
-            copy
-        },
-        |(_, at)| {
-            let mut copy = at.chip;
-            (ours_scan::count_to(&mut copy, at.now, &mut 0), copy)
-        },
+        fallen(),
+        timed_on_copies(
+            &all,
+            |at| at.chip,
+            |at, copy| {
+                black_box(ffi_scan::count_to(copy, at.now, &mut 0));
+            },
+        ),
+    );
+    line(
+        "fall a second on",
+        fallen(),
+        timed_on_copies(
+            &all,
+            |at| at.chip,
+            |at, copy| {
+                black_box(ffi_scan::fall(copy, at.now));
+            },
+        ),
     );
     let (mut pixels, mut ours) = ([0; PIXELS], [0; PIXELS]);
-    both(
+    line(
         "image",
-        &all,
-        |(_, at)| at.state.render(black_box(&mut pixels)),
-        |(lent, at)| ours_scan::render(&at.chip, *lent, black_box(&mut ours)),
+        timed(&all, |at| {
+            at.state.render(&mut pixels);
+            black_box(&pixels);
+        }),
+        timed(&all, |at| {
+            black_box(ffi_scan::render(&at.chip, at.lent(), &mut ours));
+            black_box(&ours);
+        }),
     );
 }
 
-/// Calls of one kind a second, on a controller that runs.
-fn time_calls(name: &str, count: u64, mut call: impl FnMut(u64)) {
-    let start = Instant::now();
-    (0..count).for_each(&mut call);
-    let speed = count as f64 / start.elapsed().as_secs_f64();
-    println!(
-        "original: {name}: {:.2} million calls a second",
-        speed / 1e6
-    );
+/// Calls at moments that go on from call to call, from round to round.
+fn timed_on(mut call: impl FnMut(u64)) -> impl FnMut(usize) -> Timed {
+    let mut number = 0;
+    move |calls| {
+        let start = Instant::now();
+        for _ in 0..calls {
+            number += 1;
+            call(number);
+        }
+        (calls, start.elapsed())
+    }
 }
 
-/// Bytes, drives and images of a running controller, some 50 microseconds apart.
-fn controller() {
+/// Bytes to a controller that runs: commands that change nothing, and data for
+/// page 0. Of ours only what the scan does before a byte and after it.
+fn bytes() {
     let mut running = Controller::new();
     running.select(true);
     for byte in [0xab, 0xaf, 0x2f] {
         running.byte(byte, 0).expect("a command");
     }
-    let moment = |n: u64| u128::from(n) << 50;
-    time_calls("byte of eight edges in a group", 2_000_000, |n| {
-        running.shift_in(0xe3, 8, moment(n)).expect("a command");
-        running.events.clear();
-    });
-    time_calls("drive", 1_000_000, |n| {
-        black_box(running.drive(moment(2_000_000 + n)).expect("a drive"));
-    });
-    let mut pixels = [0; PIXELS];
-    time_calls("render", 50_000, |_| running.render(black_box(&mut pixels)));
-    time_calls("image out and in", 200_000, |_| {
-        black_box(Controller::from_image(&running.image()).expect("its own image"));
-    });
+    running.events.clear();
+    for (name, page, apart) in [
+        ("command byte, 61 us apart *", None, 50),
+        ("command byte, 4 us apart *", None, 46),
+        ("data byte, 61 us apart *", Some(0), 50),
+        ("data byte, 4 us apart *", Some(0), 46),
+    ] {
+        let mut original = running.clone();
+        original.command_data(page.is_some());
+        let mut chip = ChipWords::of(&Chip::of(&running));
+        let lent = Lent {
+            ram: running.ram(),
+            icons: running.icons(),
+        };
+        line(
+            name,
+            timed_on(|number| {
+                let now = u128::from(number) << apart;
+                original.shift_in(0xe3, 8, now).expect("a byte");
+                original.events.clear();
+            }),
+            timed_on(|number| {
+                let now = u128::from(number) << apart;
+                black_box(ffi_scan::before_byte(&mut chip, now, page, lent));
+                black_box(ffi_scan::after_byte(&mut chip, now, true, lent));
+            }),
+        );
+    }
+    println!("* the original: the whole byte; ours: its scan, `before_byte` and `after_byte`");
 }
 
 pub fn run(seed: u64) -> bool {
-    println!("seed {seed}");
     println!(
-        "{:24} {:>8} {:>8}",
-        "nanoseconds a call", "original", "ours"
+        "seed {seed}, medians of {ROUNDS} alternating rounds; spread: from the least to the most"
+    );
+    println!(
+        "{:36} {:>9} {:>9} {:>6} {:>8} {:>8}",
+        "nanoseconds a call", "original", "ours", "ratio", "spread", "spread"
     );
     let mut random = Random::new(seed);
     clocks(&mut random);
     voltages(&mut random);
     scans(&mut random);
-    controller();
+    bytes();
     true
 }

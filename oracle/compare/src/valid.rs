@@ -2,9 +2,10 @@
 //! table: each field is free within its range, so that all kinds of change are
 //! pending at once; and moments about their edges, row ends and frame ends.
 use crate::{
-    chip::Chip,
+    chip::{Analog, Chip, Display, Power, Scan},
+    chip_words::ChipWords,
     clock::{random_clock, random_edges},
-    ours_scan,
+    ffi_scan,
     paper::edge,
     question::most_edges,
     random::Random,
@@ -12,7 +13,7 @@ use crate::{
     side::{ClockState, END},
     voltage::{cornered, random_settings, temperatures},
 };
-use original::ask::controller::Controller;
+use original::ask::{controller::Controller, voltage::Question};
 
 /// Intervals of line inversion: 0, or 3 to 33.
 fn lines(random: &mut Random) -> u8 {
@@ -30,89 +31,100 @@ fn duty(random: &mut Random) -> u8 {
     }
 }
 
-fn mark(random: &mut Random) -> u8 {
-    random.below(2) as u8
+fn mark(random: &mut Random) -> bool {
+    random.below(2) != 0
 }
 
-fn settings(random: &mut Random) -> [u8; 20] {
-    let mut settings = [0; 20];
-    settings[0] = random.below(128) as u8;
-    settings[1] = mark(random);
-    settings[2] = u8::from(random.one_in(8));
-    (3..6).for_each(|index| settings[index] = mark(random));
-    settings[6] = random.below(128) as u8;
-    settings[7] = duty(random);
-    settings[8] = lines(random);
-    settings[9] = random.below(8) as u8;
+/// Any of 128 commons, lines or rows.
+fn line(random: &mut Random) -> u8 {
+    random.below(128) as u8
+}
+
+/// Half of the palettes have no width above 9, so that all pulse at every PWM.
+fn palette(random: &mut Random) -> [u8; 8] {
     let palette = random.next().to_le_bytes();
-    let narrow = random.one_in(2);
-    for (index, byte) in palette.into_iter().enumerate() {
-        // Widths up to 9 pulse at every PWM.
-        settings[10 + index] = if narrow {
-            byte % 160 & 0xf0 | byte % 10
-        } else {
-            byte
-        };
+    if random.one_in(2) {
+        palette.map(|byte| ((byte % 160) & 0xf0) | (byte % 10))
+    } else {
+        palette
     }
-    settings[18] = random.pick(&[0, 0, 2, 2, 1, 3]);
-    settings[19] = random.below(32) as u8;
-    settings
 }
 
-fn pwm(gray: u8) -> u8 {
-    [9, 9, 12, 15][usize::from(gray % 4)]
+fn display(random: &mut Random) -> Display {
+    Display {
+        start_line: line(random),
+        icon_enabled: mark(random),
+        entire_on: random.one_in(8),
+        reverse: mark(random),
+        segment_reverse: mark(random),
+        common_reverse: mark(random),
+        initial_com: line(random),
+        duty: duty(random),
+        inversion_lines: lines(random),
+        gray_mode: random.below(8) as u8,
+        palette: palette(random),
+        oscillator_control: random.pick(&[0, 0, 2, 2, 1, 3]),
+        oscillator_frequency: random.below(32) as u8,
+    }
 }
 
-/// What the scan holds: of each setting the present one or any.
-fn bytes(random: &mut Random, settings: &[u8; 20]) -> [u8; 14] {
+/// A scan of the present settings, or with some of them otherwise; without its
+/// clock and its latch.
+fn scan(random: &mut Random, display: &Display) -> Scan {
     let any = random.pick(&[2, 2, 4, 1 << 40]);
-    let mut either = |present: u8, other: fn(&mut Random) -> u8| {
+    fn either<T>(random: &mut Random, any: u64, present: T, other: fn(&mut Random) -> T) -> T {
         if random.one_in(any) {
             other(random)
         } else {
             present
         }
+    }
+    let mut scan = Scan {
+        clock: None,
+        rate: (0, 0),
+        duty: either(random, any, display.duty, duty),
+        icon: either(random, any, display.icon_enabled, mark),
+        initial_com: either(random, any, display.initial_com, line),
+        common_reverse: either(random, any, display.common_reverse, mark),
+        start_line: either(random, any, display.start_line, line),
+        pwm: either(random, any, display.pwm(), |random| {
+            random.pick(&[9, 12, 15])
+        }),
+        frc_count: either(random, any, display.frc_count(), |random| {
+            random.pick(&[3, 4])
+        }),
+        inversion_lines: either(random, any, display.inversion_lines, lines),
+        row: 0,
+        step: 0,
+        frc: 0,
+        inversion_count: 0,
+        inverted: false,
+        segments: [0; 2],
+        latched: false,
     };
-    let duty = either(settings[7], duty);
-    let icon = either(settings[1], mark);
-    let first = either(settings[6], |random| random.below(128) as u8);
-    let reversed = either(settings[5], mark);
-    let start = either(settings[0], |random| random.below(128) as u8);
-    let pwm = either(pwm(settings[9]), |random| random.pick(&[9, 12, 15]));
-    let phases = either(4 - settings[9] / 4, |random| random.pick(&[3, 4]));
-    let lines = either(settings[8], lines);
-    let rows = duty + icon;
-    let row = match random.below(4) {
-        0 => rows - 1,
-        1 => duty.min(rows - 1),
-        _ => random.below(u64::from(rows)) as u8,
+    scan.row = match random.below(4) {
+        0 => scan.rows() - 1,
+        1 => scan.duty.min(scan.rows() - 1),
+        _ => random.below(u64::from(scan.rows())) as u8,
     };
+    scan.step = random.below(u64::from(scan.pwm)) as u8;
+    scan.frc = random.below(u64::from(scan.frc_count)) as u8;
     // Without line inversion any count passes.
-    let counts = if lines == 0 { 256 } else { u64::from(lines) };
-    [
-        duty,
-        icon,
-        first,
-        reversed,
-        start,
-        pwm,
-        phases,
-        row,
-        random.below(u64::from(pwm)) as u8,
-        random.below(u64::from(phases)) as u8,
-        lines,
-        random.below(counts) as u8,
-        mark(random),
-        mark(random),
-    ]
+    scan.inversion_count = match scan.inversion_lines {
+        0 => random.below(256) as u8,
+        lines => random.below(u64::from(lines)) as u8,
+    };
+    scan.inverted = mark(random);
+    scan.latched = mark(random);
+    scan
 }
 
 /// The rate of settings and rows.
-fn rate(settings: &[u8; 20], rows: u8) -> (u64, u64) {
-    if settings[18] & 2 == 0 {
+fn rate(display: &Display, rows: u8) -> (u64, u64) {
+    if display.oscillator_control & 2 == 0 {
         return RATES[usize::from(rows) - 16];
     }
-    RATES[114 + usize::from(settings[19])]
+    RATES[114 + usize::from(display.oscillator_frequency)]
 }
 
 /// A clock of a rate: the fraction and the ordinal are free within number 5.
@@ -125,45 +137,50 @@ fn clock(random: &mut Random, (p, q): (u64, u64)) -> ClockState {
     clock
 }
 
-/// A valid chip.
-pub fn chip(random: &mut Random) -> Chip {
-    let settings = settings(random);
-    let analog = random_settings(random);
-    let question = cornered(random, analog, &temperatures(analog));
-    let mut chip = Chip {
-        settings,
-        analog,
-        words: [0; 13],
-        bytes: bytes(random, &settings),
-        display_on: !random.one_in(16),
-        oscillator_enabled: !random.one_in(16),
+/// Mostly driven, with a supply and a temperature at a corner or plain ones.
+fn power(random: &mut Random, corner: &Question) -> Power {
+    let (display_on, oscillator_enabled) = (!random.one_in(16), !random.one_in(16));
+    Power {
+        display_on,
+        oscillator_enabled,
         power_save: random.one_in(16),
         waiting: random.one_in(32),
-        supply: if random.one_in(4) {
-            question.supply
+        supply_millivolts: if random.one_in(4) {
+            corner.supply
         } else {
             2400 + random.below(1600) as u16
         },
-        temperature: if random.one_in(2) {
-            question.temperature
+        temperature_millicelsius: if random.one_in(2) {
+            corner.temperature
         } else {
             25_000
         },
-    };
-    let own = rate(&settings, chip.bytes[0] + chip.bytes[1]);
-    let rate = if random.one_in(2) {
+    }
+}
+
+/// A valid chip.
+pub fn chip(random: &mut Random) -> Chip {
+    let display = display(random);
+    let analog = random_settings(random);
+    let corner = cornered(random, analog, &temperatures(analog));
+    let mut scan = scan(random, &display);
+    let power = power(random, &corner);
+    let own = rate(&display, scan.rows());
+    scan.rate = if random.one_in(2) {
         own
     } else {
         random.pick(&RATES)
     };
-    (chip.words[9], chip.words[10]) = rate;
     if !random.one_in(16) {
-        let clock = clock(random, rate);
-        chip.put_clock(Some(clock));
+        scan.put_clock(clock(random, scan.rate));
     }
-    chip.words[11] = random.next();
-    chip.words[12] = random.next();
-    chip
+    scan.segments = [random.next(), random.next()];
+    Chip {
+        display,
+        analog: Analog::of(&analog),
+        power,
+        scan,
+    }
 }
 
 /// RAM and icons: of random bytes, or one byte all over with some others.
@@ -182,11 +199,11 @@ pub fn memory(random: &mut Random) -> (Vec<u8>, Vec<u8>) {
 
 /// A moment about an edge that matters, or anywhere before 2^32 s.
 fn near(random: &mut Random, chip: &Chip) -> u128 {
-    let Some(clock) = chip.clock() else {
+    let Some(clock) = chip.scan.clock_state() else {
         return random.spread(END);
     };
-    let [pwm, row, step] = [5, 7, 8].map(|index| u64::from(chip.bytes[index]));
-    let rows = u64::from(chip.bytes[0]) + u64::from(chip.bytes[1]);
+    let Scan { pwm, row, step, .. } = chip.scan;
+    let [pwm, row, step, rows] = [pwm, row, step, chip.scan.rows()].map(u64::from);
     let row_end = pwm - step + pwm * random.spread(1 << 8) as u64;
     let frame_end = (rows - row) * pwm - step + rows * pwm * random.spread(1 << 8) as u64;
     let edges = match random.below(8) {
@@ -211,9 +228,9 @@ pub fn moment(random: &mut Random, chip: &Chip) -> u128 {
     if random.one_in(2) {
         return first;
     }
-    let mut counted = *chip;
-    ours_scan::count_to(&mut counted, first, &mut 0);
-    near(random, &counted)
+    let mut counted = ChipWords::of(chip);
+    ffi_scan::count_to(&mut counted, first, &mut 0);
+    near(random, &counted.chip())
 }
 
 /// Power-on, with its moment, as the plainest numbers.

@@ -6,9 +6,6 @@ use Rattle.voltage.specs.Answers.{answerOf}
 use Rattle.voltage.proofs.voltages.Statement.{statement}
 use Rattle.voltage.proofs.voltages.Tie as tie
 
-valid-requires : tie.Need-valid-requires
-valid-requires c κs = search needs
-
 returns : tie.Need-returns
 unfolding answerOf
 returns c = rw (sym (c .before .valid .ensures) ∙ not-true _ (c .if1 .taken))
@@ -21,4 +18,4 @@ unfolding answerOf
 returns-2 c = rw (sym (c .before .before .valid .ensures) ∙ not-false _ (c .before .if1 .left), c .voltages-of .ensures)
 
 pub voltages-spec : {M : Type 1} → statement M
-voltages-spec = tie.close (tie.spec valid-requires returns voltages-of-requires returns-2)
+voltages-spec = tie.close (tie.spec (λ c κs. search needs) returns voltages-of-requires returns-2)

@@ -166,8 +166,9 @@ impl Controller {
         out.put_known("scan.clock", &clock);
         Ok(out)
     }
-    /// A copy whose supply fell at `now`. 1 mV, since 0 would mark it cold.
-    fn fallen(&self, now: u128) -> Result<Self, Error> {
+    /// A copy whose supply fell at `now`: its scan is the counted one without the
+    /// clock. 1 mV, since 0 would mark it cold.
+    pub fn fallen(&self, now: u128) -> Result<Self, Error> {
         let mut copy = self.clone();
         copy.put_known("supplied", &[1]);
         copy.set_supply(1, now)?;

@@ -4,8 +4,8 @@ use mathlib.Core.Path.{_∙_, ap}
 use native.Mathlib.Nat.{add-zero}
 use native.Mathlib.Omega.{arith}
 use Rattle.clock.specs.declared.wide.Quotient.{Quotient}
-use Rattle.clock.specs.Clock.{started}
-use Rattle.clock.specs.Wide.{divided}
+use Rattle.clock.specs.Edges.{started}
+use Rattle.clock.specs.Wide.{quotientOf}
 use Rattle.clock.proofs.Rates.{lcd-bounds}
 use Rattle.clock.proofs.edges.start.Statement.{statement}
 use Rattle.clock.proofs.edges.start.Tie as tie
@@ -27,7 +27,7 @@ returns c =
       fraction = 0;
       ordinal = 0;
     })
-    (c .before .div .ensures ∙ ap (λ (n : ℕ). divided n (a .rate .numerator)) (add-zero (a .rate .denominator * 2 ^ 64)))
+    (c .before .div .ensures ∙ ap (λ (n : ℕ). quotientOf n (a .rate .numerator)) (add-zero (a .rate .denominator * 2 ^ 64)))
 
 pub start-spec : {M : Type 1} → statement M
 start-spec = tie.close (tie.spec div-requires returns)

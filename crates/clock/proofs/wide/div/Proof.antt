@@ -6,9 +6,6 @@ use Rattle.clock.proofs.Words.{digit-lt, digit-fits, long-division}
 use Rattle.clock.proofs.wide.div.Statement.{statement}
 use Rattle.clock.proofs.wide.div.Tie as tie
 
-rem-t : tie.Need-rem-t
-rem-t c = search needs
-
 mul-t : tie.Need-mul-t
 mul-t c =
     let a = c .before .args in
@@ -18,9 +15,6 @@ add-t : tie.Need-add-t
 add-t c =
     let a = c .before .before .args in
     omega (arith, digit-lt (a .w .high) (a .w .low / 2 ^ 32) (a .d) (2 ^ 32) (c .before .before .pre .0) (omega arith))
-
-rem-u : tie.Need-rem-u
-rem-u c = search needs
 
 mul-u : tie.Need-mul-u
 mul-u c =
@@ -32,28 +26,16 @@ add-u c =
     let a = c .before .before .before .args in
     omega (arith, digit-lt (a .w .high % a .d * 2 ^ 32 + a .w .low / 2 ^ 32) (a .w .low % 2 ^ 32) (a .d) (2 ^ 32) (c .before .before .before .pre .0) (omega arith))
 
-div-t5 : tie.Need-div-t5
-div-t5 c = search needs
-
-div-t6 : tie.Need-div-t6
-div-t6 c = search needs
-
 mul-t7 : tie.Need-mul-t7
 mul-t7 c =
     let a = c .before .before .before .before .args in
     omega (arith, digit-fits (a .w .high) (a .w .low / 2 ^ 32) (a .d) (2 ^ 32) (c .before .before .before .before .pre .0) (omega arith))
-
-div-t8 : tie.Need-div-t8
-div-t8 c = search needs
 
 add-t9 : tie.Need-add-t9
 add-t9 c =
     let start = c .before .before .before .before in
     let a = start .args in
     omega (arith, digit-fits (a .w .high) (a .w .low / 2 ^ 32) (a .d) (2 ^ 32) (start .pre .0) (omega arith), digit-fits (a .w .high % a .d * 2 ^ 32 + a .w .low / 2 ^ 32) (a .w .low % 2 ^ 32) (a .d) (2 ^ 32) (start .pre .0) (omega arith))
-
-rem-t11 : tie.Need-rem-t11
-rem-t11 c = search needs
 
 returns : tie.Need-returns
 returns c =
@@ -64,16 +46,16 @@ pub div-spec : {M : Type 1} → statement M
 div-spec =
     tie.close
     (tie.spec
-    rem-t
+    (λ c. search needs)
     mul-t
     add-t
-    rem-u
+    (λ c. search needs)
     mul-u
     add-u
-    div-t5
-    div-t6
+    (λ c. search needs)
+    (λ c. search needs)
     mul-t7
-    div-t8
+    (λ c. search needs)
     add-t9
-    rem-t11
+    (λ c. search needs)
     returns)

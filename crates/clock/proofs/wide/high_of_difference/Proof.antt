@@ -14,9 +14,6 @@ sub-result-2 c =
     let a = c .before .before .before .before .before .args in
     high-lt (a .a .high) (a .a .low) (a .b .high) (a .b .low) (c .before .before .before .before .before .pre) (search needs) (search needs) (c .before .before .if1 .taken)
 
-sub-result-3 : tie.Need-sub-result-3
-sub-result-3 c = search needs
-
 returns : tie.Need-returns
 returns c =
     let a = c .before .before .before .before .before .args in
@@ -29,4 +26,4 @@ returns-2 c =
 
 pub high-of-difference-spec : {M : Type 1} → statement M
 high-of-difference-spec =
-    tie.close (tie.spec sub-result sub-result-2 sub-result-3 returns returns-2)
+    tie.close (tie.spec sub-result sub-result-2 (λ c. search needs) returns returns-2)

@@ -30,16 +30,10 @@ add-t7 c =
     let a = c .before .before .before .args in
     omega (arith, half-product (c .before .before .before .pre .0) (c .before .before .before .pre .1 .0), middle-column-lt (a .w .high) (a .w .low) (a .m) (a .c) (c .before .before .before .pre .1 .0) (c .before .before .before .pre .1 .1) (omega arith))
 
-mul-t10 : tie.Need-mul-t10
-mul-t10 c = search needs
-
-add-t12 : tie.Need-add-t12
-add-t12 c = search needs
-
 returns : tie.Need-returns
 returns c =
     let a = c .before .before .before .args in
     words (a .w .high * a .m + _) (omega arith) (columns (a .w .high) (a .w .low) (a .m) (a .c))
 
 pub mul-add-spec : {M : Type 1} → statement M
-mul-add-spec = tie.close (tie.spec mul-t add-t mul-u add-u mul-t6 add-t7 mul-t10 add-t12 returns)
+mul-add-spec = tie.close (tie.spec mul-t add-t mul-u add-u mul-t6 add-t7 (λ c. search needs) (λ c. search needs) returns)

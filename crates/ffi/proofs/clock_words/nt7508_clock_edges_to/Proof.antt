@@ -3,15 +3,6 @@ use borrow.Author.Needs.{needs}
 use Rattle.ffi.proofs.clock_words.nt7508_clock_edges_to.Statement.{statement}
 use Rattle.ffi.proofs.clock_words.nt7508_clock_edges_to.Tie as tie
 
-clock-of-requires : tie.Need-clock-of-requires
-clock-of-requires c κs = search needs
-
-edges-to-requires : tie.Need-edges-to-requires
-edges-to-requires c κs = search needs
-
-counted-requires : tie.Need-counted-requires
-counted-requires c κs = search needs
-
 returns : tie.Need-returns
 returns c =
     let at-edges-to = c .before .before in
@@ -20,4 +11,4 @@ returns c =
 
 pub nt7508-clock-edges-to-spec : {M : Type 1} → statement M
 nt7508-clock-edges-to-spec =
-    tie.close (tie.spec clock-of-requires edges-to-requires counted-requires returns)
+    tie.close (tie.spec (λ c κs. search needs) (λ c κs. search needs) (λ c κs. search needs) returns)

@@ -3,15 +3,6 @@ use borrow.Author.Needs.{needs}
 use Rattle.ffi.proofs.clock_words.nt7508_clock_moved.Statement.{statement}
 use Rattle.ffi.proofs.clock_words.nt7508_clock_moved.Tie as tie
 
-clock-of-requires : tie.Need-clock-of-requires
-clock-of-requires c κs = search needs
-
-moved-requires : tie.Need-moved-requires
-moved-requires c κs = search needs
-
-made-requires : tie.Need-made-requires
-made-requires c κs = search needs
-
 returns : tie.Need-returns
 returns c =
     let at-moved = c .before .before in
@@ -20,4 +11,4 @@ returns c =
 
 pub nt7508-clock-moved-spec : {M : Type 1} → statement M
 nt7508-clock-moved-spec =
-    tie.close (tie.spec clock-of-requires moved-requires made-requires returns)
+    tie.close (tie.spec (λ c κs. search needs) (λ c κs. search needs) (λ c κs. search needs) returns)

@@ -3,14 +3,8 @@ use borrow.Author.Needs.{needs}
 use Rattle.ffi.proofs.clock_words.nt7508_clock_new.Statement.{statement}
 use Rattle.ffi.proofs.clock_words.nt7508_clock_new.Tie as tie
 
-new-requires : tie.Need-new-requires
-new-requires c κs = search needs
-
-made-requires : tie.Need-made-requires
-made-requires c κs = search needs
-
 returns : tie.Need-returns
 returns c = (simp (c .made .ensures .0, c .before .before .new .ensures), simp (c .made .ensures .1, c .before .before .new .ensures))
 
 pub nt7508-clock-new-spec : {M : Type 1} → statement M
-nt7508-clock-new-spec = tie.close (tie.spec new-requires made-requires returns)
+nt7508-clock-new-spec = tie.close (tie.spec (λ c κs. search needs) (λ c κs. search needs) returns)

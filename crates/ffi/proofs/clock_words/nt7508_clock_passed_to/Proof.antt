@@ -3,15 +3,6 @@ use borrow.Author.Needs.{needs}
 use Rattle.ffi.proofs.clock_words.nt7508_clock_passed_to.Statement.{statement}
 use Rattle.ffi.proofs.clock_words.nt7508_clock_passed_to.Tie as tie
 
-clock-of-requires : tie.Need-clock-of-requires
-clock-of-requires c κs = search needs
-
-passed-to-requires : tie.Need-passed-to-requires
-passed-to-requires c κs = search needs
-
-passed-requires : tie.Need-passed-requires
-passed-requires c κs = search needs
-
 returns : tie.Need-returns
 returns c = (
   simp (c .passed .ensures .0, c .before .before .before .passed-to .ensures, c .before .before .before .before .clock-of .ensures),
@@ -23,4 +14,4 @@ returns c = (
 
 pub nt7508-clock-passed-to-spec : {M : Type 1} → statement M
 nt7508-clock-passed-to-spec =
-    tie.close (tie.spec clock-of-requires passed-to-requires passed-requires returns)
+    tie.close (tie.spec (λ c κs. search needs) (λ c κs. search needs) (λ c κs. search needs) returns)

@@ -3,18 +3,6 @@ use borrow.Author.Needs.{needs}
 use Rattle.ffi.proofs.clock_words.passed.Statement.{statement}
 use Rattle.ffi.proofs.clock_words.passed.Tie as tie
 
-enum-known-answer : tie.Need-enum-known-answer
-enum-known-answer c = search needs
-
-words-of-requires : tie.Need-words-of-requires
-words-of-requires c κs = search needs
-
-enum-known-answer-2 : tie.Need-enum-known-answer-2
-enum-known-answer-2 c = search needs
-
-number-of-requires : tie.Need-number-of-requires
-number-of-requires c κs = search needs
-
 returns : tie.Need-returns
 returns c = (rw (c .before .before .answer .given .1), (rw (c .before .before .answer .given .1), rw (c .before .before .answer .given .1, c .words-of .ensures)))
 
@@ -25,9 +13,9 @@ pub passed-spec : {M : Type 1} → statement M
 passed-spec =
     tie.close
     (tie.spec
-    enum-known-answer
-    words-of-requires
-    enum-known-answer-2
-    number-of-requires
+    (λ c. search needs)
+    (λ c κs. search needs)
+    (λ c. search needs)
+    (λ c κs. search needs)
     returns
     returns-2)

@@ -4,9 +4,6 @@ use borrow.Author.Needs.{needs}
 use Rattle.ffi.proofs.drive_words.common_of.Statement.{statement}
 use Rattle.ffi.proofs.drive_words.common_of.Tie as tie
 
-cast-t4 : tie.Need-cast-t4
-cast-t4 c = search needs
-
 returns : tie.Need-returns
 returns c = simp (lt-ltb _ _ (c .if1 .taken))
 
@@ -14,4 +11,4 @@ returns-2 : tie.Need-returns-2
 returns-2 c = simp (le-ltb _ _ (c .if1 .left))
 
 pub common-of-spec : {M : Type 1} → statement M
-common-of-spec = tie.close (tie.spec cast-t4 returns returns-2)
+common-of-spec = tie.close (tie.spec (λ c. search needs) returns returns-2)

@@ -3,19 +3,10 @@ use borrow.Author.Needs.{needs}
 use Rattle.ffi.proofs.drive_words.nt7508_scan_common_microvolts.Statement.{statement}
 use Rattle.ffi.proofs.drive_words.nt7508_scan_common_microvolts.Tie as tie
 
-drive-of-requires : tie.Need-drive-of-requires
-drive-of-requires c κs = search needs
-
-common-microvolts-requires : tie.Need-common-microvolts-requires
-common-microvolts-requires c κs = search needs
-
-electrode-word-requires : tie.Need-electrode-word-requires
-electrode-word-requires c κs = search needs
-
 returns : tie.Need-returns
 returns c = simp (c .electrode-word .ensures, c .before .common-microvolts .ensures, c .before .before .drive-of .ensures)
 
 pub nt7508-scan-common-microvolts-spec : {M : Type 1} → statement M
 nt7508-scan-common-microvolts-spec =
     tie.close
-    (tie.spec drive-of-requires common-microvolts-requires electrode-word-requires returns)
+    (tie.spec (λ c κs. search needs) (λ c κs. search needs) (λ c κs. search needs) returns)

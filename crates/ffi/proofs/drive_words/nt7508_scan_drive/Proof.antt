@@ -1,23 +1,13 @@
 -- `ffi::drive_words::nt7508_scan_drive` meets its contract.
+use Prim.Native.Nat.{ℕ}
+use mathlib.Core.Path.{_∙_}
 use mir.Facts.{toZ-ofZ}
+use Rattle.scan.specs.declared.drive.LcdDrive.{LcdDrive}
+use Rattle.ffi.specs.DriveWords.{driveWords}
+use Rattle.ffi.proofs.Answers.{status-by, left-by}
 use borrow.Author.Needs.{needs}
 use Rattle.ffi.proofs.drive_words.nt7508_scan_drive.Statement.{statement}
 use Rattle.ffi.proofs.drive_words.nt7508_scan_drive.Tie as tie
-
-scan-of-requires : tie.Need-scan-of-requires
-scan-of-requires c κs = search needs
-
-settings-of-requires : tie.Need-settings-of-requires
-settings-of-requires c κs = search needs
-
-settings-of-requires-2 : tie.Need-settings-of-requires-2
-settings-of-requires-2 c κs = search needs
-
-drive-requires : tie.Need-drive-requires
-drive-requires c κs = search needs
-
-put-drive-requires : tie.Need-put-drive-requires
-put-drive-requires c κs = search needs
 
 returns : tie.Need-returns
 returns c =
@@ -26,15 +16,16 @@ returns c =
     let at-settings-of = at-settings-of2 .before in
     let at-scan-of = at-settings-of .before in
     let start = at-scan-of .before .before .before in
-    (simp (c .put-drive .ensures .0, at-drive .drive .ensures, at-settings-of2 .settings-of2 .ensures, at-settings-of .settings-of .ensures, at-scan-of .scan-of .ensures, toZ-ofZ (start .fits .temperature)), simp (c .put-drive .ensures .1, at-drive .drive .ensures, at-settings-of2 .settings-of2 .ensures, at-settings-of .settings-of .ensures, at-scan-of .scan-of .ensures, toZ-ofZ (start .fits .temperature)))
+    let by = simp (at-settings-of2 .settings-of2 .ensures, at-settings-of .settings-of .ensures, at-scan-of .scan-of .ensures, toZ-ofZ (start .fits .temperature)) at (at-drive .drive .ensures) in
+    (c .put-drive .ensures .0 ∙ status-by by, (c .put-drive .ensures .1 .0 ∙ left-by (λ (d : LcdDrive × ℕ). driveWords (d .0)) by _, c .put-drive .ensures .1 .1 ∙ left-by (λ (d : LcdDrive × ℕ). d .1) by _))
 
 pub nt7508-scan-drive-spec : {M : Type 1} → statement M
 nt7508-scan-drive-spec =
     tie.close
     (tie.spec
-    scan-of-requires
-    settings-of-requires
-    settings-of-requires-2
-    drive-requires
-    put-drive-requires
+    (λ c κs. search needs)
+    (λ c κs. search needs)
+    (λ c κs. search needs)
+    (λ c κs. search needs)
+    (λ c κs. search needs)
     returns)

@@ -3,25 +3,15 @@ use borrow.Author.Needs.{needs}
 use Rattle.ffi.proofs.drive_words.put_drive.Statement.{statement}
 use Rattle.ffi.proofs.drive_words.put_drive.Tie as tie
 
-enum-told : tie.Need-enum-told
-enum-told c = search needs
-
-words-of-requires : tie.Need-words-of-requires
-words-of-requires c κs = search needs
-
-enum-known-check : tie.Need-enum-known-check
-enum-known-check c = search needs
-
-number-of-requires : tie.Need-number-of-requires
-number-of-requires c κs = search needs
-
 returns : tie.Need-returns
-returns c = (rw (c .before .enum-told .given .1), rw (c .before .enum-told .given .1, c .words-of .ensures))
+returns c = (rw (c .before .enum-told .given .1), (rw (c .before .enum-told .given .1, c .words-of .ensures), rw (c .before .enum-told .given .1)))
 
 returns-2 : tie.Need-returns-2
-returns-2 c = (rw (c .before .before .check .given .1, c .number-of .ensures), rw (c .before .before .check .given .1))
+returns-2 c =
+    let at-check = c .before .before in
+    (rw (at-check .check .given .1, c .number-of .ensures), (rw (at-check .check .given .1), rw (at-check .check .given .1)))
 
 pub put-drive-spec : {M : Type 1} → statement M
 put-drive-spec =
     tie.close
-    (tie.spec enum-told words-of-requires enum-known-check number-of-requires returns returns-2)
+    (tie.spec (λ c. search needs) (λ c κs. search needs) (λ c. search needs) (λ c κs. search needs) returns returns-2)

@@ -3,18 +3,6 @@ use borrow.Author.Needs.{needs}
 use Rattle.ffi.proofs.scan_words.nt7508_scan_render.Statement.{statement}
 use Rattle.ffi.proofs.scan_words.nt7508_scan_render.Tie as tie
 
-settings-of-requires : tie.Need-settings-of-requires
-settings-of-requires c κs = search needs
-
-render-requires : tie.Need-render-requires
-render-requires c κs = search needs
-
-checked-requires : tie.Need-checked-requires
-checked-requires c κs = search needs
-
-same-length : tie.Need-same-length
-same-length c = search needs
-
 returns : tie.Need-returns
 returns c =
     let at-render = c .before .before .before in
@@ -23,4 +11,4 @@ returns c =
 
 pub nt7508-scan-render-spec : {M : Type 1} → statement M
 nt7508-scan-render-spec =
-    tie.close (tie.spec settings-of-requires render-requires checked-requires same-length returns)
+    tie.close (tie.spec (λ c κs. search needs) (λ c κs. search needs) (λ c κs. search needs) (λ c. search needs) returns)

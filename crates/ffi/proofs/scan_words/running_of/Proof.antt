@@ -7,11 +7,8 @@ use Rattle.ffi.proofs.scan_words.running_of.Tie as tie
 returns : tie.Need-returns
 returns c = simp (eq-eqb _ _ (c .if1 .taken))
 
-clock-of-requires : tie.Need-clock-of-requires
-clock-of-requires c κs = search needs
-
 returns-2 : tie.Need-returns-2
 returns-2 c = simp (ne-eqb _ _ (c .before .if1 .left), c .clock-of .ensures)
 
 pub running-of-spec : {M : Type 1} → statement M
-running-of-spec = tie.close (tie.spec returns clock-of-requires returns-2)
+running-of-spec = tie.close (tie.spec returns (λ c κs. search needs) returns-2)

@@ -3,18 +3,6 @@ use borrow.Author.Needs.{needs}
 use Rattle.ffi.proofs.scan_words.scan_bytes.Statement.{statement}
 use Rattle.ffi.proofs.scan_words.scan_bytes.Tie as tie
 
-flag-byte-requires : tie.Need-flag-byte-requires
-flag-byte-requires c κs = search needs
-
-flag-byte-requires-2 : tie.Need-flag-byte-requires-2
-flag-byte-requires-2 c κs = search needs
-
-flag-byte-requires-3 : tie.Need-flag-byte-requires-3
-flag-byte-requires-3 c κs = search needs
-
-flag-byte-requires-4 : tie.Need-flag-byte-requires-4
-flag-byte-requires-4 c κs = search needs
-
 returns : tie.Need-returns
 returns c = simp (c .before .before .before .flag-byte .ensures, c .before .before .flag-byte2 .ensures, c .before .flag-byte3 .ensures, c .flag-byte4 .ensures)
 
@@ -22,8 +10,8 @@ pub scan-bytes-spec : {M : Type 1} → statement M
 scan-bytes-spec =
     tie.close
     (tie.spec
-    flag-byte-requires
-    flag-byte-requires-2
-    flag-byte-requires-3
-    flag-byte-requires-4
+    (λ c κs. search needs)
+    (λ c κs. search needs)
+    (λ c κs. search needs)
+    (λ c κs. search needs)
     returns)

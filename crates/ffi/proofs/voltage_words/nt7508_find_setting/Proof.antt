@@ -4,15 +4,6 @@ use borrow.Author.Needs.{needs}
 use Rattle.ffi.proofs.voltage_words.nt7508_find_setting.Statement.{statement}
 use Rattle.ffi.proofs.voltage_words.nt7508_find_setting.Tie as tie
 
-settings-of-requires : tie.Need-settings-of-requires
-settings-of-requires c κs = search needs
-
-find-setting-requires : tie.Need-find-setting-requires
-find-setting-requires c κs = search needs
-
-put-found-requires : tie.Need-put-found-requires
-put-found-requires c κs = search needs
-
 returns : tie.Need-returns
 returns c = record {
   found = c .before .before .find-setting .result;
@@ -23,4 +14,4 @@ returns c = record {
 
 pub nt7508-find-setting-spec : {M : Type 1} → statement M
 nt7508-find-setting-spec =
-    tie.close (tie.spec settings-of-requires find-setting-requires put-found-requires returns)
+    tie.close (tie.spec (λ c κs. search needs) (λ c κs. search needs) (λ c κs. search needs) returns)

@@ -4,15 +4,6 @@ use borrow.Author.Needs.{needs}
 use Rattle.ffi.proofs.voltage_words.nt7508_voltages.Statement.{statement}
 use Rattle.ffi.proofs.voltage_words.nt7508_voltages.Tie as tie
 
-settings-of-requires : tie.Need-settings-of-requires
-settings-of-requires c κs = search needs
-
-voltages-requires : tie.Need-voltages-requires
-voltages-requires c κs = search needs
-
-put-requires : tie.Need-put-requires
-put-requires c κs = search needs
-
 returns : tie.Need-returns
 returns c =
     let at-voltages = c .before .before in
@@ -22,4 +13,4 @@ returns c =
 
 pub nt7508-voltages-spec : {M : Type 1} → statement M
 nt7508-voltages-spec =
-    tie.close (tie.spec settings-of-requires voltages-requires put-requires returns)
+    tie.close (tie.spec (λ c κs. search needs) (λ c κs. search needs) (λ c κs. search needs) returns)

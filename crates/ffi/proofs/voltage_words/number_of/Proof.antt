@@ -1,7 +1,7 @@
 -- `ffi::voltage_words::number_of` meets its contract.
 use mathlib.Core.Path.{_≡_, refl}
-use Rattle.voltage.specs.Answers.{number}
-use Rattle.voltage.specs.declared.Refusal.{Refusal}
+use Rattle.voltage.specs.Check.{number}
+use Rattle.voltage.specs.declared.check.Refusal.{Refusal}
 use Rattle.ffi.proofs.voltage_words.number_of.Statement.{statement}
 use Rattle.ffi.proofs.voltage_words.number_of.Tie as tie
 

@@ -3,27 +3,6 @@ use borrow.Author.Needs.{needs}
 use Rattle.ffi.proofs.voltage_words.words_of.Statement.{statement}
 use Rattle.ffi.proofs.voltage_words.words_of.Tie as tie
 
-cast-t8 : tie.Need-cast-t8
-cast-t8 c = search needs
-
-word-of-requires : tie.Need-word-of-requires
-word-of-requires c κs = search needs
-
-word-of-requires-2 : tie.Need-word-of-requires-2
-word-of-requires-2 c κs = search needs
-
-word-of-requires-3 : tie.Need-word-of-requires-3
-word-of-requires-3 c κs = search needs
-
-word-of-requires-4 : tie.Need-word-of-requires-4
-word-of-requires-4 c κs = search needs
-
-word-of-requires-5 : tie.Need-word-of-requires-5
-word-of-requires-5 c κs = search needs
-
-word-of-requires-6 : tie.Need-word-of-requires-6
-word-of-requires-6 c κs = search needs
-
 returns : tie.Need-returns
 returns c =
     let at-word-of4 = c .before .before in
@@ -36,11 +15,11 @@ pub words-of-spec : {M : Type 1} → statement M
 words-of-spec =
     tie.close
     (tie.spec
-    cast-t8
-    word-of-requires
-    word-of-requires-2
-    word-of-requires-3
-    word-of-requires-4
-    word-of-requires-5
-    word-of-requires-6
+    (λ c. search needs)
+    (λ c κs. search needs)
+    (λ c κs. search needs)
+    (λ c κs. search needs)
+    (λ c κs. search needs)
+    (λ c κs. search needs)
+    (λ c κs. search needs)
     returns)

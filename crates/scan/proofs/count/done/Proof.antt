@@ -4,9 +4,6 @@ use borrow.Author.Needs.{needs}
 use Rattle.scan.proofs.count.done.Statement.{statement}
 use Rattle.scan.proofs.count.done.Tie as tie
 
-add-t6 : tie.Need-add-t6
-add-t6 c = search needs
-
 returns : tie.Need-returns
 returns c = simp (c .if1 .taken)
 
@@ -14,4 +11,4 @@ returns-2 : tie.Need-returns-2
 returns-2 c = simp (c .if1 .left, add-zero)
 
 pub done-spec : {M : Type 1} → statement M
-done-spec = tie.close (tie.spec add-t6 returns returns-2)
+done-spec = tie.close (tie.spec (λ c. search needs) returns returns-2)

@@ -1,101 +1,75 @@
--- `scan::count::in_pieces` meets its contract.
-use mathlib.Core.Path.{_∙_, refl}
+-- `scan::count::in_pieces` meets its contract. Before each turn as many pieces as counted went to their limits; the fourth
+-- counts all.
+use Prim.Native.Nat.{_-_, _≤_}
+use mathlib.Core.Bool.{true}
+use mathlib.Core.Logic.{⊎-elim}
+use mathlib.Core.Path.{_≡_, _∙_}
+use native.Mathlib.Numerals.{add-one}
 use native.Mathlib.Omega.{arith}
-use borrow.Author.Needs.{needs}
-use Rattle.scan.proofs.Stages.{start, checked, next, last-done, fourth-done}
+use lib.Dec.{eqb}
+use borrow.Author.Tests.{eqb-true, eqb-false}
+use Rattle.checks.proofs.Tests.{either, neither}
+use Rattle.scan.proofs.Stages.{After, stage-zero, checked, next, last-done, fourth-done}
 use Rattle.scan.proofs.count.in_pieces.Statement.{statement}
 use Rattle.scan.proofs.count.in_pieces.Tie as tie
 
-piece-of-requires : tie.Need-piece-of-requires
-piece-of-requires c κs = search needs
+abbrev Inv-loop : tie.InvT-loop
+Inv-loop settings now from₀ before₀ from before = (before ≤ 3) × After from₀ settings now before from
 
-done-requires : tie.Need-done-requires
-done-requires c κs = search needs
+abbrev μ-loop : tie.MeasureT-loop
+μ-loop settings now from₀ before₀ from before = 3 - before
 
-returns : tie.Need-returns
+loop-holds : tie.Need-loop-holds Inv-loop μ-loop
+loop-holds c = (omega arith, stage-zero _ _ _ (c .pre))
+
+piece-of-requires : tie.Need-piece-of-requires Inv-loop μ-loop
+piece-of-requires c κs = let g = c .before .pre in (g .0, (g .1 .0, checked _ _ _ g _ (c .loop .inv .1)))
+
+done-requires : tie.Need-done-requires Inv-loop μ-loop
+done-requires c κs = c .before .before .before .loop .inv .0
+
+returns : tie.Need-returns Inv-loop μ-loop
 returns c =
-    let p = c .before .before in
-    let g = p .before .pre in
-    c .done .ensures ∙ last-done _ _ _ g 0 (start _ _ _ g) (p .piece-of .ensures) (omega arith) (c .before .if1 .taken)
+    let at-if1 = c .before in
+    let at-piece-of = at-if1 .before .before in
+    let at-loop = at-piece-of .before in
+    let g = at-loop .before .pre in
+    let i = at-loop .loop .inv in
+    c .done .ensures
+    ∙ ⊎-elim (λ l. last-done _ _ _ g _ (i .1) (at-piece-of .piece-of .ensures) (i .0) l)
+    (λ e. fourth-done _ _ _ g _ (i .1) (at-piece-of .piece-of .ensures) (eqb-true _ _ e))
+    (either _ _ (at-if1 .if1 .taken))
 
-piece-of-requires-2 : tie.Need-piece-of-requires-2
-piece-of-requires-2 c κs =
-    let p = c .before .before in
-    let g = p .before .pre in
-    (g .0, (g .1 .0, checked _ _ _ g 1 (next _ _ _ g 0 (start _ _ _ g) (p .piece-of .ensures) (c .before .if1 .left))))
+add-before : tie.Need-add-before Inv-loop μ-loop
+add-before c = let i = c .before .before .before .before .loop .inv in omega (arith, i .0)
 
-done-requires-2 : tie.Need-done-requires-2
-done-requires-2 c κs = search needs
+loop-less : tie.Need-loop-less Inv-loop μ-loop
+loop-less c =
+    let at-if1 = c .before in
+    let at-loop = at-if1 .before .before .before in
+    let i = at-loop .loop .inv in
+    let more = neither (at-if1 .before .before .piece-of .result .last) (eqb (at-loop .loop .before) 3) (at-if1 .if1 .left) in
+    omega (arith, i .0, eqb-false (at-loop .loop .before) 3 (more .1))
 
-returns-2 : tie.Need-returns-2
-returns-2 c =
-    let q = c .before .before in
-    let p = q .before .before .before in
-    let g = p .before .pre in
-    let after-p = next _ _ _ g 0 (start _ _ _ g) (p .piece-of .ensures) (q .before .before .if1 .left) in
-    c .done2 .ensures ∙ last-done _ _ _ g 1 after-p (q .piece-of2 .ensures) (omega arith) (c .before .if2 .taken)
-
-piece-of-requires-3 : tie.Need-piece-of-requires-3
-piece-of-requires-3 c κs =
-    let q = c .before .before in
-    let p = q .before .before .before in
-    let g = p .before .pre in
-    let after-p = next _ _ _ g 0 (start _ _ _ g) (p .piece-of .ensures) (q .before .before .if1 .left) in
-    let after-q = next _ _ _ g 1 after-p (q .piece-of2 .ensures) (c .before .if2 .left) in
-    (g .0, (g .1 .0, checked _ _ _ g 2 after-q))
-
-done-requires-3 : tie.Need-done-requires-3
-done-requires-3 c κs = search needs
-
-returns-3 : tie.Need-returns-3
-returns-3 c =
-    let r = c .before .before in
-    let q = r .before .before .before in
-    let p = q .before .before .before in
-    let g = p .before .pre in
-    let after-p = next _ _ _ g 0 (start _ _ _ g) (p .piece-of .ensures) (q .before .before .if1 .left) in
-    let after-q = next _ _ _ g 1 after-p (q .piece-of2 .ensures) (r .before .before .if2 .left) in
-    c .done3 .ensures ∙ last-done _ _ _ g 2 after-q (r .piece-of3 .ensures) (omega arith) (c .before .if3 .taken)
-
-piece-of-requires-4 : tie.Need-piece-of-requires-4
-piece-of-requires-4 c κs =
-    let r = c .before .before in
-    let q = r .before .before .before in
-    let p = q .before .before .before in
-    let g = p .before .pre in
-    let after-p = next _ _ _ g 0 (start _ _ _ g) (p .piece-of .ensures) (q .before .before .if1 .left) in
-    let after-q = next _ _ _ g 1 after-p (q .piece-of2 .ensures) (r .before .before .if2 .left) in
-    let after-r = next _ _ _ g 2 after-q (r .piece-of3 .ensures) (c .before .if3 .left) in
-    (g .0, (g .1 .0, checked _ _ _ g 3 after-r))
-
-done-requires-4 : tie.Need-done-requires-4
-done-requires-4 c κs = search needs
-
-returns-4 : tie.Need-returns-4
-returns-4 c =
-    let t = c .before in
-    let r = t .before .before .before in
-    let q = r .before .before .before in
-    let p = q .before .before .before in
-    let g = p .before .pre in
-    let after-p = next _ _ _ g 0 (start _ _ _ g) (p .piece-of .ensures) (q .before .before .if1 .left) in
-    let after-q = next _ _ _ g 1 after-p (q .piece-of2 .ensures) (r .before .before .if2 .left) in
-    let after-r = next _ _ _ g 2 after-q (r .piece-of3 .ensures) (t .before .before .if3 .left) in
-    c .done4 .ensures ∙ fourth-done _ _ _ g 3 after-r (t .piece-of4 .ensures) refl
+loop-again : tie.Need-loop-again Inv-loop μ-loop
+loop-again c =
+    let at-if1 = c .before in
+    let at-piece-of = at-if1 .before .before in
+    let at-loop = at-piece-of .before in
+    let i = at-loop .loop .inv in
+    let more = neither _ _ (at-if1 .if1 .left) in
+    (omega (arith, i .0, eqb-false (at-loop .loop .before) 3 (more .1)), rw add-one (next _ _ _ (at-loop .before .pre) _ (i .1) (at-piece-of .piece-of .ensures) (more .0)))
 
 pub in-pieces-spec : {M : Type 1} → statement M
 in-pieces-spec =
     tie.close
     (tie.spec
+    Inv-loop
+    μ-loop
+    loop-holds
     piece-of-requires
     done-requires
     returns
-    piece-of-requires-2
-    done-requires-2
-    returns-2
-    piece-of-requires-3
-    done-requires-3
-    returns-3
-    piece-of-requires-4
-    done-requires-4
-    returns-4)
+    add-before
+    loop-less
+    loop-again)

@@ -3,8 +3,8 @@ use Prim.Native.Nat.{ℕ, _-_}
 use mathlib.Core.Path.{ap}
 use borrow.Author.Tests.{eq-eqb, ne-eqb}
 use borrow.Author.Needs.{needs}
-use Rattle.scan.proofs.Latches.{row-sum}
 use Rattle.scan.specs.Drive.{commonOf}
+use Rattle.scan.proofs.Latches.{row-sum}
 use Rattle.scan.proofs.drive.common_of.Statement.{statement}
 use Rattle.scan.proofs.drive.common_of.Tie as tie
 
@@ -12,25 +12,13 @@ returns : tie.Need-returns
 unfolding commonOf
 returns c = simp (eq-eqb _ _ (c .if1 .taken))
 
-add-common : tie.Need-add-common
-add-common c = search needs
-
-sub-result : tie.Need-sub-result
-sub-result c = search needs
-
 returns-2 : tie.Need-returns-2
 unfolding commonOf
-returns-2 c =
-    let at-if1 = c .before .before .before in
-    let start = at-if1 .before .before in
-    simp (ne-eqb _ _ (at-if1 .if1 .left), c .if2 .taken) (ap (λ (k : ℕ). 127 - k) (row-sum (start .args .scan .«initial_com») (start .args .scan .row)))
+returns-2 c = let at-if1 = c .before .before .before in simp (ne-eqb _ _ (at-if1 .if1 .left), c .if2 .taken) (ap (λ (k : ℕ). 127 - k) (row-sum _ _))
 
 returns-3 : tie.Need-returns-3
 unfolding commonOf
-returns-3 c =
-    let at-if1 = c .before .before .before in
-    let start = at-if1 .before .before in
-    simp (ne-eqb _ _ (at-if1 .if1 .left), c .if2 .left) (row-sum (start .args .scan .«initial_com») (start .args .scan .row))
+returns-3 c = let at-if1 = c .before .before .before in simp (ne-eqb _ _ (at-if1 .if1 .left), c .if2 .left) (row-sum _ _)
 
 pub common-of-spec : {M : Type 1} → statement M
-common-of-spec = tie.close (tie.spec returns add-common sub-result returns-2 returns-3)
+common-of-spec = tie.close (tie.spec returns (λ c. search needs) (λ c. search needs) returns-2 returns-3)

@@ -4,12 +4,9 @@ use Rattle.scan.specs.Drive.{undriven}
 use Rattle.scan.proofs.drive.undriven.Statement.{statement}
 use Rattle.scan.proofs.drive.undriven.Tie as tie
 
-grounded-requires : tie.Need-grounded-requires
-grounded-requires c κs = search needs
-
 returns : tie.Need-returns
 unfolding undriven
 returns c = simp (c .grounded .ensures)
 
 pub undriven-spec : {M : Type 1} → statement M
-undriven-spec = tie.close (tie.spec grounded-requires returns)
+undriven-spec = tie.close (tie.spec (λ c κs. search needs) returns)

@@ -3,23 +3,11 @@ use borrow.Author.Needs.{needs}
 use Rattle.scan.proofs.image.glass_common.Statement.{statement}
 use Rattle.scan.proofs.image.glass_common.Tie as tie
 
-sub-result : tie.Need-sub-result
-sub-result c = search needs
-
 returns : tie.Need-returns
 returns c = simp (c .if1 .taken)
-
-add-result : tie.Need-add-result
-add-result c = search needs
 
 returns-2 : tie.Need-returns-2
 returns-2 c = simp (c .if1 .left)
 
 pub glass-common-spec : {M : Type 1} → statement M
-glass-common-spec =
-    tie.close
-    (tie.spec
-    sub-result
-    returns
-    add-result
-    returns-2)
+glass-common-spec = tie.close (tie.spec (λ c. search needs) returns (λ c. search needs) returns-2)

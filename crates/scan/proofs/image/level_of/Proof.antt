@@ -1,46 +1,40 @@
 -- `scan::image::level_of` meets its contract.
-use Prim.Native.Nat.{_≤_, _<_}
 use native.Mathlib.Omega.{arith}
 use borrow.Author.Needs.{needs}
-use Rattle.scan.proofs.Images.{quotient-lt, period-pos, period-le, widths-period, level-of-widths}
+use Rattle.scan.specs.Image.{levelOf}
+use Rattle.scan.proofs.Images.{frc-bounds, cycle-pos, cycle-le, widths-fit, level-lt}
 use Rattle.scan.proofs.image.level_of.Statement.{statement}
 use Rattle.scan.proofs.image.level_of.Tie as tie
-
-period-of-requires : tie.Need-period-of-requires
-period-of-requires c κs = search needs
-
-width-sum-requires : tie.Need-width-sum-requires
-width-sum-requires c κs = search needs
 
 mul-result : tie.Need-mul-result
 mul-result c =
     let a = c .before .before .args in
-    omega (arith, c .width-sum .ensures, widths-period (a .settings) (a .shade), period-le (a .settings))
+    omega (arith, c .width-sum .ensures, widths-fit (a .settings) (a .shade) _ (frc-bounds (a .settings .«gray_mode») .1))
 
 add-result : tie.Need-add-result
 add-result c =
     let a = c .before .before .args in
-    omega (arith, c .width-sum .ensures, widths-period (a .settings) (a .shade), c .before .period-of .ensures, period-le (a .settings))
+    omega (arith, c .width-sum .ensures, widths-fit (a .settings) (a .shade) _ (frc-bounds (a .settings .«gray_mode») .1), c .before .cycle-of .ensures, cycle-le (a .settings))
 
 div-result : tie.Need-div-result
-div-result c = omega (arith, c .before .period-of .ensures, period-pos (c .before .before .args .settings))
+div-result c = omega (arith, c .before .cycle-of .ensures, cycle-pos (c .before .before .args .settings))
 
 cast-result : tie.Need-cast-result
+unfolding levelOf
 cast-result c =
     let a = c .before .before .args in
-    let pos : 0 < c .before .period-of .result = omega (arith, c .before .period-of .ensures, period-pos (a .settings)) in
-    let within : c .width-sum .result ≤ c .before .period-of .result = omega (arith, c .width-sum .ensures, c .before .period-of .ensures, widths-period (a .settings) (a .shade)) in
-    record { fits = quotient-lt _ _ _ pos within (omega arith) }
+    record { fits = rw (c .width-sum .ensures, c .before .cycle-of .ensures) (level-lt (a .settings) (a .shade)) }
 
 returns : tie.Need-returns
-returns c = level-of-widths (c .before .before .args .settings) (c .before .before .args .shade) _ _ (c .width-sum .ensures) (c .before .period-of .ensures)
+unfolding levelOf
+returns c = simp (c .width-sum .ensures, c .before .cycle-of .ensures)
 
 pub level-of-spec : {M : Type 1} → statement M
 level-of-spec =
     tie.close
     (tie.spec
-    period-of-requires
-    width-sum-requires
+    (λ c κs. search needs)
+    (λ c κs. search needs)
     mul-result
     add-result
     div-result

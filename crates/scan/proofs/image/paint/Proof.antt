@@ -1,30 +1,26 @@
 -- The invariant: the first y rows are painted, the bytes after them as they were.
-use Prim.Native.Nat.{_+_, _-_, _*_, _≤_}
-use mathlib.Core.Path.{_≡_, _∙_}
+use Prim.Native.Nat.{_-_, _*_, _≤_}
 use mathlib.Core.List.{_++_}
+use mathlib.Core.Path.{_≡_, refl, _∙_}
 use native.Mathlib.Omega.{arith}
 use lib.ListN.{drop}
 use borrow.Author.Needs.{needs}
 use Rattle.scan.specs.Image.{rowsUpTo, imageRow}
-use Rattle.scan.proofs.Rows.{length-part, rows-none, rows-more, rows-all, length-rows-drop}
 use Rattle.scan.proofs.Images.{length-row}
+use Rattle.scan.proofs.Rows.{length-part, rows-more, rows-all, length-rows-drop}
 use Rattle.scan.proofs.image.paint.Statement.{statement}
 use Rattle.scan.proofs.image.paint.Tie as tie
 
 abbrev Inv-loop : tie.InvT-loop
 Inv-loop settings lit ram image₀ levels y₀ image y =
-    (y ≤ 64) × (image ≡ rowsUpTo (imageRow lit settings ram) y ++ drop (y * 96) image₀)
+    (y ≤ 64) × (image ≡ rowsUpTo (imageRow settings lit ram) y ++ drop (y * 96) image₀)
 
 abbrev μ-loop : tie.MeasureT-loop
 μ-loop settings lit ram image₀ levels y₀ image y = 64 - y
 
-levels-of-requires : tie.Need-levels-of-requires Inv-loop μ-loop
-levels-of-requires c κs = search needs
-
 loop-holds : tie.Need-loop-holds Inv-loop μ-loop
-loop-holds c =
-    let a = c .before .before .before .args in
-    (omega arith, rows-none (imageRow (a .lit) (a .settings) (a .ram .now)) (length-row (a .lit) (a .settings) (a .ram .now)) (a .image .now))
+unfolding rowsUpTo
+loop-holds c = (omega arith, refl)
 
 mul-at : tie.Need-mul-at Inv-loop μ-loop
 mul-at c = omega arith
@@ -43,9 +39,9 @@ part-paint-row-start c = omega arith
 
 part-paint-row-end : tie.Need-part-paint-row-end Inv-loop μ-loop
 part-paint-row-end c =
-    let a = c .before .before .before .before .before .args in
     let l = c .before .loop in
-    omega (arith, length-rows-drop (imageRow (a .lit) (a .settings) (a .ram .now)) (length-row (a .lit) (a .settings) (a .ram .now)) (l .y) (a .image .now) (l .image) (l .inv .1) (omega arith))
+    let a = c .before .before .before .before .before .args in
+    omega (arith, length-rows-drop _ (length-row (a .settings) (a .lit) (a .ram .now)) (l .y) (a .image .now) (l .inv .1) (omega arith))
 
 paint-row-requires : tie.Need-paint-row-requires Inv-loop μ-loop
 paint-row-requires c κs =
@@ -54,8 +50,9 @@ paint-row-requires c κs =
     let start = at-levels-of .before .before .before in
     let a = start .args in
     let l = at-loop .loop in
-    let same = length-rows-drop (imageRow (a .lit) (a .settings) (a .ram .now)) (length-row (a .lit) (a .settings) (a .ram .now)) (l .y) (a .image .now) (l .image) (l .inv .1) (omega arith) in
-    (start .pre .0, (at-levels-of .levels-of .ensures, (start .pre .1 .0, (c .before .loop-test .taken, length-part (l .image) (l .y * 96) 96 (omega arith)))))
+    let same = length-rows-drop _ (length-row (a .settings) (a .lit) (a .ram .now)) (l .y) (a .image .now) (l .inv .1) (omega arith) in
+    let part = length-part (l .image) (l .y * 96) 96 (omega arith) in
+    (start .pre .0, (at-levels-of .levels-of .ensures, (start .pre .1 .0, (c .before .loop-test .taken, part))))
 
 add-y : tie.Need-add-y Inv-loop μ-loop
 add-y c = omega arith
@@ -67,23 +64,22 @@ loop-again : tie.Need-loop-again Inv-loop μ-loop
 loop-again c =
     let at-paint-row = c .before .before in
     let at-loop = at-paint-row .before .before .before in
-    let start = at-loop .before .before .before .before in
-    let a = start .args in
+    let a = at-loop .before .before .before .before .args in
     let l = at-loop .loop in
-    let part = at-paint-row .paint-row .last .1 .1 .1 .1 .1 .0 in
-    (omega arith, rows-more (imageRow (a .lit) (a .settings) (a .ram .now)) (length-row (a .lit) (a .settings) (a .ram .now)) (l .y) (a .image .now) (l .image) part (l .y * 96 + 96 - l .y * 96) (l .inv .1) (at-paint-row .paint-row .ensures) (omega arith))
+    let wide = length-row (a .settings) (a .lit) (a .ram .now) in
+    (omega arith, rows-more _ wide (l .y) (a .image .now) (l .inv .1) (at-paint-row .paint-row .ensures))
 
 same-length : tie.Need-same-length Inv-loop μ-loop
 same-length c =
-    let a = c .before .before .before .before .before .args in
     let l = c .before .loop in
-    length-rows-drop (imageRow (a .lit) (a .settings) (a .ram .now)) (length-row (a .lit) (a .settings) (a .ram .now)) (l .y) (a .image .now) (l .image) (l .inv .1) (omega arith)
+    let a = c .before .before .before .before .before .args in
+    length-rows-drop _ (length-row (a .settings) (a .lit) (a .ram .now)) (l .y) (a .image .now) (l .inv .1) (omega arith)
 
 returns : tie.Need-returns Inv-loop μ-loop
 returns c =
     let start = c .before .before .before .before .before in
     let a = start .args in
-    c .before .loop .inv .1 ∙ rows-all (imageRow (a .lit) (a .settings) (a .ram .now)) (length-row (a .lit) (a .settings) (a .ram .now)) (c .before .loop .y) 64 (a .image .now) (omega arith) (start .pre .1 .1)
+    c .before .loop .inv .1 ∙ rows-all _ (length-row (a .settings) (a .lit) (a .ram .now)) (a .image .now) (omega arith) (start .pre .1 .1)
 
 pub paint-spec : {M : Type 1} → statement M
 paint-spec =
@@ -91,7 +87,7 @@ paint-spec =
     (tie.spec
     Inv-loop
     μ-loop
-    levels-of-requires
+    (λ c κs. search needs)
     loop-holds
     mul-at
     cast-paint-row

@@ -6,12 +6,9 @@ use Rattle.scan.specs.Image.{ramRowOf}
 use Rattle.scan.proofs.image.ram_row_of.Statement.{statement}
 use Rattle.scan.proofs.image.ram_row_of.Tie as tie
 
-add-result : tie.Need-add-result
-add-result c = search needs
-
 returns : tie.Need-returns
 unfolding ramRowOf
 returns c = (refl, omega arith)
 
 pub ram-row-of-spec : {M : Type 1} → statement M
-ram-row-of-spec = tie.close (tie.spec add-result returns)
+ram-row-of-spec = tie.close (tie.spec (λ c. search needs) returns)

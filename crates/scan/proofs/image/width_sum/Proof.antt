@@ -1,29 +1,22 @@
--- The invariant: `sum` is the widths of the phases passed, each at most 15.
-use Prim.Native.Nat.{_-_, _*_, _≤_}
+-- The invariant: `sum` is the widths of the phases passed.
+use Prim.Native.Nat.{_-_, _≤_}
 use mathlib.Core.Path.{_≡_, refl, _∙_, ap}
 use native.Mathlib.Omega.{arith}
 use borrow.Author.Needs.{needs}
-use Rattle.scan.specs.Settings.{frcCountOf}
 use Rattle.scan.specs.Image.{widths}
-use Rattle.scan.proofs.Images.{pulse-le, widths-more, pwm-bounds, frc-bounds}
+use Rattle.scan.proofs.Images.{frc-bounds, widths-fit, widths-more}
 use Rattle.scan.proofs.image.width_sum.Statement.{statement}
 use Rattle.scan.proofs.image.width_sum.Tie as tie
 
 abbrev Inv-loop : tie.InvT-loop
-Inv-loop settings shade pwm phases sum₀ phase₀ sum phase = (phase ≤ phases) × (sum ≡ widths settings shade phase) × (sum ≤ 15 * phase)
+Inv-loop settings shade pwm phases sum₀ phase₀ sum phase = (phase ≤ phases) × (sum ≡ widths settings shade phase)
 
 abbrev μ-loop : tie.MeasureT-loop
 μ-loop settings shade pwm phases sum₀ phase₀ sum phase = phases - phase
 
-pwm-of-requires : tie.Need-pwm-of-requires Inv-loop μ-loop
-pwm-of-requires c κs = search needs
-
-frc-count-of-requires : tie.Need-frc-count-of-requires Inv-loop μ-loop
-frc-count-of-requires c κs = search needs
-
 loop-holds : tie.Need-loop-holds Inv-loop μ-loop
 unfolding widths
-loop-holds c = (omega arith, refl, omega arith)
+loop-holds c = (omega arith, refl)
 
 pulse-width-requires : tie.Need-pulse-width-requires Inv-loop μ-loop
 pulse-width-requires c κs =
@@ -37,35 +30,29 @@ cast-sum c = omega arith
 add-sum : tie.Need-add-sum Inv-loop μ-loop
 add-sum c =
     let at-loop = c .before .before in
-    let at-frc-count-of = at-loop .before in
-    let at-pwm-of = at-frc-count-of .before in
-    let start = at-pwm-of .before in
-    let s = start .args .settings in
-    let pulse = pulse-le s (start .args .shade) (at-loop .loop .phase) (at-pwm-of .pwm-of .result) in
-    omega (arith, pulse, c .pulse-width .ensures, at-pwm-of .pwm-of .ensures, pwm-bounds (s .«gray_mode») .1, at-frc-count-of .frc-count-of .ensures, frc-bounds (s .«gray_mode») .1)
+    let a = at-loop .before .before .before .args in
+    let phase : at-loop .loop .phase ≤ 4 = omega (arith, at-loop .before .frc-count-of .ensures, frc-bounds (a .settings .«gray_mode») .1) in
+    omega (arith, widths-fit (a .settings) (a .shade) (at-loop .loop .phase) phase)
 
 add-phase : tie.Need-add-phase Inv-loop μ-loop
-add-phase c = omega (arith, c .before .before .before .frc-count-of .ensures, frc-bounds (c .before .before .before .before .before .args .settings .«gray_mode») .1)
+add-phase c = omega arith
 
 loop-less : tie.Need-loop-less Inv-loop μ-loop
 loop-less c = omega arith
 
 loop-again : tie.Need-loop-again Inv-loop μ-loop
 loop-again c =
-    let a = c .before .before .before .before .before .args in
-    let s = a .settings in
-    let l = c .before .before .loop in
-    let pulse = pulse-le s (a .shade) (l .phase) (c .before .before .before .before .pwm-of .result) in (
-      omega arith,
-      widths-more s (a .shade) (l .phase) (l .sum) _ _ (l .inv .1) (c .pulse-width .ensures) (c .before .before .before .before .pwm-of .ensures),
-      omega (arith, pulse, c .pulse-width .ensures, c .before .before .before .before .pwm-of .ensures, pwm-bounds (s .«gray_mode») .1),
-    )
+    let at-loop = c .before .before in
+    let at-pwm-of = at-loop .before .before in
+    let a = at-pwm-of .before .args in
+    let more = widths-more (a .settings) (a .shade) (at-loop .loop .phase) in
+    (omega arith, simp (at-loop .loop .inv .1, c .pulse-width .ensures, at-pwm-of .pwm-of .ensures) more)
 
 returns : tie.Need-returns Inv-loop μ-loop
 returns c =
-    let a = c .before .before .before .before .args in
-    let e : c .before .loop .phase ≡ frcCountOf (a .settings .«gray_mode») = omega (arith, c .before .before .frc-count-of .ensures) in
-    c .before .loop .inv .1 ∙ ap (widths (a .settings) (a .shade)) e
+    let at-frc-count-of = c .before .before in
+    let a = at-frc-count-of .before .before .args in
+    c .before .loop .inv .1 ∙ ap (widths (a .settings) (a .shade)) (omega (arith, at-frc-count-of .frc-count-of .ensures))
 
 pub width-sum-spec : {M : Type 1} → statement M
 width-sum-spec =
@@ -73,8 +60,8 @@ width-sum-spec =
     (tie.spec
     Inv-loop
     μ-loop
-    pwm-of-requires
-    frc-count-of-requires
+    (λ c κs. search needs)
+    (λ c κs. search needs)
     loop-holds
     pulse-width-requires
     cast-sum

@@ -5,12 +5,6 @@ use Rattle.scan.specs.Latch.{affects}
 use Rattle.scan.proofs.latch.affected.Statement.{statement}
 use Rattle.scan.proofs.latch.affected.Tie as tie
 
-enum-known-page : tie.Need-enum-known-page
-enum-known-page c = search needs
-
-enum-told : tie.Need-enum-told
-enum-told c = search needs
-
 returns : tie.Need-returns
 unfolding affects
 returns c = rw (c .enum-told .given .1)
@@ -21,12 +15,7 @@ returns-2 c = rw (c .before .before .page .given .1) (simp (eq-eqb _ _ (c .if1 .
 
 returns-3 : tie.Need-returns-3
 unfolding affects
-returns-3 c = rw (c .before .before .before .page .given .1) (simp (ne-eqb _ _ (c .before .if1 .left), eq-eqb _ _ (c .if2 .taken)))
-
-returns-4 : tie.Need-returns-4
-unfolding affects
-returns-4 c = rw (c .before .before .before .page .given .1) (simp (ne-eqb _ _ (c .before .if1 .left), ne-eqb _ _ (c .if2 .left)))
+returns-3 c = rw (c .before .before .page .given .1) (simp (ne-eqb _ _ (c .if1 .left)))
 
 pub affected-spec : {M : Type 1} → statement M
-affected-spec =
-    tie.close (tie.spec enum-known-page enum-told returns returns-2 returns-3 returns-4)
+affected-spec = tie.close (tie.spec (λ c. search needs) (λ c. search needs) returns returns-2 returns-3)

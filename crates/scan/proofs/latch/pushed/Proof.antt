@@ -6,23 +6,8 @@ use Rattle.scan.proofs.Shades.{shade-lt}
 use Rattle.scan.proofs.latch.pushed.Statement.{statement}
 use Rattle.scan.proofs.latch.pushed.Tie as tie
 
-shade-requires : tie.Need-shade-requires
-shade-requires c κs = search needs
-
-cast-at : tie.Need-cast-at
-cast-at c = search needs
-
 array-read-if1 : tie.Need-array-read-if1
 array-read-if1 c = rw (c .shade .ensures) (shade-lt _ _ _ _)
-
-mul-result : tie.Need-mul-result
-mul-result c = search needs
-
-add-result : tie.Need-add-result
-add-result c = search needs
-
-mul-result-2 : tie.Need-mul-result-2
-mul-result-2 c = search needs
 
 returns : tie.Need-returns
 returns c = simp (sym (c .before .shade .ensures), c .if1 .taken) (omega arith)
@@ -34,11 +19,11 @@ pub pushed-spec : {M : Type 1} → statement M
 pushed-spec =
     tie.close
     (tie.spec
-    shade-requires
-    cast-at
+    (λ c κs. search needs)
+    (λ c. search needs)
     array-read-if1
-    mul-result
-    add-result
-    mul-result-2
+    (λ c. search needs)
+    (λ c. search needs)
+    (λ c. search needs)
     returns
     returns-2)

@@ -4,12 +4,9 @@ use Rattle.scan.specs.Latch.{shadeActive}
 use Rattle.scan.proofs.latch.shade_active.Statement.{statement}
 use Rattle.scan.proofs.latch.shade_active.Tie as tie
 
-pulse-width-requires : tie.Need-pulse-width-requires
-pulse-width-requires c κs = search needs
-
 returns : tie.Need-returns
 unfolding shadeActive
 returns c = simp (c .before .pulse-width .ensures)
 
 pub shade-active-spec : {M : Type 1} → statement M
-shade-active-spec = tie.close (tie.spec pulse-width-requires returns)
+shade-active-spec = tie.close (tie.spec (λ c κs. search needs) returns)

@@ -2,7 +2,8 @@
 use Prim.Native.Nat.{_+_, _-_, _≤_}
 use mathlib.Core.Path.{_≡_, refl, _∙_}
 use native.Mathlib.Omega.{arith}
-use Rattle.scan.specs.Latch.{rowActive, word as wordOf}
+use Rattle.scan.specs.Closed.{rowActive}
+use Rattle.scan.specs.Latch.{word as wordOf}
 use Rattle.scan.proofs.Latches.{word-more, word-fits, word-at}
 use Rattle.scan.proofs.latch.word.Statement.{statement}
 use Rattle.scan.proofs.latch.word.Tie as tie
@@ -32,11 +33,10 @@ loop-less c = omega arith
 loop-again : tie.Need-loop-again Inv-loop μ-loop
 loop-again c =
     let at-loop = c .before .before in
-    let start = at-loop .before .before in
-    (omega arith, rw (c .pushed .ensures, at-loop .loop .inv .1) (word-more (rowActive (start .args .active) (start .args .settings) (start .args .part .now) (start .args .bit)) _ _ _ _ (omega arith) (omega arith)))
+    (omega arith, rw (c .pushed .ensures, at-loop .loop .inv .1) (word-more _ _ _ _ _ (omega arith) (omega arith)))
 
 returns : tie.Need-returns Inv-loop μ-loop
-returns c = c .before .loop .inv .1 ∙ word-at (rowActive (c .before .before .before .args .active) (c .before .before .before .args .settings) (c .before .before .before .args .part .now) (c .before .before .before .args .bit)) (omega arith) (omega arith)
+returns c = c .before .loop .inv .1 ∙ word-at _ (omega arith) (omega arith)
 
 pub word-spec : {M : Type 1} → statement M
 word-spec =

@@ -1,74 +1,44 @@
 -- `scan::run::clocked` meets its contract.
-use mathlib.Core.Path.{sym, _∙_}
+use borrow.Author.Tests.{eq-eqb, ne-eqb}
+use Rattle.scan.specs.Run.{clocked, startedIf}
+use Rattle.scan.proofs.Runs.{rows-lcd}
 use borrow.Author.Needs.{needs}
-use borrow.Author.Tests.{not-true, not-false}
-use Rattle.scan.proofs.Clocks.{not-refused, made-is}
-use Rattle.scan.proofs.Runs.{clock-dropped, clock-kept, clock-begun}
 use Rattle.scan.proofs.run.clocked.Statement.{statement}
 use Rattle.scan.proofs.run.clocked.Tie as tie
 
-stopped-requires : tie.Need-stopped-requires
-stopped-requires c κs = search needs
-
 returns : tie.Need-returns
-returns c =
-    let a = c .before .before .args in
-    c .stopped .ensures ∙ clock-dropped (a .settings) (a .scan) (a .moment) (not-true _ (c .before .if1 .taken))
-
-enum-told : tie.Need-enum-told
-enum-told c = search needs
-
-enum-told-2 : tie.Need-enum-told-2
-enum-told-2 c = search needs
+unfolding clocked
+returns c = simp (ne-eqb _ _ (c .before .if1 .taken), c .stopped .ensures)
 
 returns-2 : tie.Need-returns-2
+unfolding clocked startedIf
 returns-2 c =
-    let a = c .before .before .before .args in
-    clock-kept (a .settings) (a .scan) (a .moment) (not-false _ (c .before .before .if1 .left)) (c .enum-told2 .given .1)
+    let at-if1 = c .before .before .before in
+    simp (eq-eqb _ _ (at-if1 .if1 .left), c .enum-told2 .given .1)
 
-rate-of-requires : tie.Need-rate-of-requires
-rate-of-requires c κs = search needs
-
-new-requires : tie.Need-new-requires
-new-requires c κs = search needs
-
-enum-known-made : tie.Need-enum-known-made
-enum-known-made c = search needs
-
-enum-told-3 : tie.Need-enum-told-3
-enum-told-3 c = search needs
+start-clock-requires : tie.Need-start-clock-requires
+start-clock-requires c κs =
+    let start = c .before .before .before .before .before .before .before in
+    (start .pre .0, rw (c .rate-of .ensures) (rows-lcd _ _ (start .pre .1 .0) (start .pre .1 .1)))
 
 returns-3 : tie.Need-returns-3
+unfolding clocked startedIf
 returns-3 c =
-    let rated = c .before .before .before in
-    let start = rated .before .before .before .before in
-    absurd (not-refused _ _ (start .pre .0) (rw (rated .rate-of .ensures) (start .pre .1)) (sym (c .before .before .new .ensures) ∙ c .enum-told3 .given .1))
-
-with-clock-requires : tie.Need-with-clock-requires
-with-clock-requires c κs = search needs
-
-returns-4 : tie.Need-returns-4
-returns-4 c =
-    let rated = c .before .before .before .before .before in
-    let start = rated .before .before .before .before in
-    let a = start .args in
-    c .with-clock .ensures
-    ∙ clock-begun (a .settings) (a .scan) (a .moment) (not-false _ (rated .before .before .before .if1 .left)) (rated .before .enum-told .given .1) (rated .rate-of .ensures)
-    (made-is _ _ (start .pre .0) (rw (rated .rate-of .ensures) (start .pre .1)) (sym (c .before .before .before .before .new .ensures) ∙ c .before .before .made .given .1))
+    let at-rate-of = c .before .before in
+    let at-enum-told = at-rate-of .before .before in
+    let at-if1 = at-enum-told .before .before .before in
+    simp (eq-eqb _ _ (at-if1 .if1 .left), at-enum-told .enum-told .given .1, c .with-ticking .ensures, c .before .start-clock .ensures, at-rate-of .rate-of .ensures)
 
 pub clocked-spec : {M : Type 1} → statement M
 clocked-spec =
     tie.close
     (tie.spec
-    stopped-requires
+    (λ c κs. search needs)
     returns
-    enum-told
-    enum-told-2
+    (λ c. search needs)
+    (λ c. search needs)
     returns-2
-    rate-of-requires
-    new-requires
-    enum-known-made
-    enum-told-3
-    returns-3
-    with-clock-requires
-    returns-4)
+    (λ c κs. search needs)
+    start-clock-requires
+    (λ c κs. search needs)
+    returns-3)

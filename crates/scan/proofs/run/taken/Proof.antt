@@ -1,21 +1,14 @@
 -- `scan::run::taken` meets its contract.
-use borrow.Author.Needs.{needs}
 use Rattle.scan.specs.Run.{taken}
+use borrow.Author.Needs.{needs}
 use Rattle.scan.proofs.run.taken.Statement.{statement}
 use Rattle.scan.proofs.run.taken.Tie as tie
 
-rate-of-requires : tie.Need-rate-of-requires
-rate-of-requires c κs = search needs
-
-pwm-of-requires : tie.Need-pwm-of-requires
-pwm-of-requires c κs = search needs
-
-frc-count-of-requires : tie.Need-frc-count-of-requires
-frc-count-of-requires c κs = search needs
-
 returns : tie.Need-returns
 unfolding taken
-returns c = simp (c .before .before .rate-of .ensures, c .before .pwm-of .ensures, c .frc-count-of .ensures)
+returns c =
+    let at-frame-of = c .before .before in
+    simp (at-frame-of .frame-of .ensures, c .before .rate-of .ensures, c .pwm-of .ensures)
 
 pub taken-spec : {M : Type 1} → statement M
-taken-spec = tie.close (tie.spec rate-of-requires pwm-of-requires frc-count-of-requires returns)
+taken-spec = tie.close (tie.spec (λ c κs. search needs) (λ c κs. search needs) (λ c κs. search needs) returns)

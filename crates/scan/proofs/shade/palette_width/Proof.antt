@@ -4,18 +4,6 @@ use borrow.Author.Needs.{needs}
 use Rattle.scan.proofs.shade.palette_width.Statement.{statement}
 use Rattle.scan.proofs.shade.palette_width.Tie as tie
 
-mul-byte : tie.Need-mul-byte
-mul-byte c = search needs
-
-add-byte : tie.Need-add-byte
-add-byte c = search needs
-
-cast-byte : tie.Need-cast-byte
-cast-byte c = search needs
-
-array-read-byte : tie.Need-array-read-byte
-array-read-byte c = search needs
-
 returns : tie.Need-returns
 returns c = simp (eq-eqb _ _ (c .if1 .taken))
 
@@ -24,4 +12,4 @@ returns-2 c = simp (ne-eqb _ _ (c .if1 .left))
 
 pub palette-width-spec : {M : Type 1} → statement M
 palette-width-spec =
-    tie.close (tie.spec mul-byte add-byte cast-byte array-read-byte returns returns-2)
+    tie.close (tie.spec (λ c. search needs) (λ c. search needs) (λ c. search needs) (λ c. search needs) returns returns-2)

@@ -1,7 +1,7 @@
 -- `scan::shade::shade` meets its contract.
 use borrow.Author.Needs.{needs}
-use Rattle.scan.proofs.Shades.{column-lt}
 use Rattle.scan.specs.Shade.{shadeOf}
+use Rattle.scan.proofs.Shades.{column-lt}
 use Rattle.scan.proofs.shade.shade.Statement.{statement}
 use Rattle.scan.proofs.shade.shade.Tie as tie
 
@@ -9,23 +9,24 @@ returns : tie.Need-returns
 unfolding shadeOf
 returns c = simp (c .if1 .taken)
 
-column-of-requires : tie.Need-column-of-requires
-column-of-requires c κs = search needs
-
 planes-requires : tie.Need-planes-requires
-planes-requires c κs = (c .before .before .before .pre .0, (c .before .before .before .pre .1 .0, rw (c .column-of .ensures) (column-lt (c .before .before .before .args .settings .«segment_reverse») _ (c .before .before .before .pre .1 .1))))
-
-sub-result : tie.Need-sub-result
-sub-result c = search needs
+planes-requires c κs =
+    let start = c .before .before .before in
+    let column = column-lt (start .args .settings .«segment_reverse») _ (start .pre .1 .1) in
+    (start .pre .0, (start .pre .1 .0, rw (c .column-of .ensures) column))
 
 returns-2 : tie.Need-returns-2
 unfolding shadeOf
-returns-2 c = simp (c .before .before .before .if1 .left, c .if2 .taken, c .before .planes .ensures, c .before .before .column-of .ensures)
+returns-2 c =
+    let at-column-of = c .before .before in
+    simp (at-column-of .before .if1 .left, c .if2 .taken, c .before .planes .ensures, at-column-of .column-of .ensures)
 
 returns-3 : tie.Need-returns-3
 unfolding shadeOf
-returns-3 c = simp (c .before .before .before .if1 .left, c .if2 .left, c .before .planes .ensures, c .before .before .column-of .ensures)
+returns-3 c =
+    let at-column-of = c .before .before in
+    simp (at-column-of .before .if1 .left, c .if2 .left, c .before .planes .ensures, at-column-of .column-of .ensures)
 
 pub shade-spec : {M : Type 1} → statement M
 shade-spec =
-    tie.close (tie.spec returns column-of-requires planes-requires sub-result returns-2 returns-3)
+    tie.close (tie.spec returns (λ c κs. search needs) planes-requires (λ c. search needs) returns-2 returns-3)

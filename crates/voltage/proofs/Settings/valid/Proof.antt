@@ -4,12 +4,9 @@ use Rattle.voltage.specs.Check.{validSettings}
 use Rattle.voltage.proofs.Settings.valid.Statement.{statement}
 use Rattle.voltage.proofs.Settings.valid.Tie as tie
 
-valid-booster-requires : tie.Need-valid-booster-requires
-valid-booster-requires c κs = search needs
-
 returns : tie.Need-returns
 unfolding validSettings
 returns c = rw (c .before .before .before .before .valid-booster .ensures)
 
 pub valid-spec : {M : Type 1} → statement M
-valid-spec = tie.close (tie.spec valid-booster-requires returns)
+valid-spec = tie.close (tie.spec (λ c κs. search needs) returns)

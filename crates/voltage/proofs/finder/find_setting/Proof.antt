@@ -10,7 +10,7 @@ use Rattle.voltage.specs.Check.{validSettings}
 use Rattle.voltage.specs.Voltage.{gain, rounded, targetAt}
 use Rattle.voltage.specs.Finder.{inBand}
 use Rattle.voltage.proofs.Numbers.{gain-below, scaled-below, target-is}
-use Rattle.voltage.proofs.Laws.{in-range}
+use Rattle.voltage.proofs.Checks.{in-range}
 use native.Mathlib.Omega.{arith}
 use Rattle.voltage.proofs.finder.find_setting.Statement.{statement}
 use Rattle.voltage.proofs.finder.find_setting.Tie as tie
@@ -20,13 +20,13 @@ abbrev computed : ℕ → ℕ → ℕ → ℕ
 computed factor base p = rounded (factor * gain (p / 64) * (base + p % 64))
 
 abbrev Inv-loop : tie.InvT-loop
-Inv-loop low high temperature factor base pair₀ scaled₀ pair scaled =
+Inv-loop temperature low high factor base pair₀ scaled₀ pair scaled =
     (pair ≤ 512)
     × (((p : ℕ) → p < pair → inBand low high (computed factor base p) ≡ false)
     × ((pair % 64 ≡ 0 → ⊥) → scaled ≡ factor * gain (pair / 64)))
 
 abbrev μ-loop : tie.MeasureT-loop
-μ-loop low high temperature factor base pair₀ scaled₀ pair scaled = 512 - pair
+μ-loop temperature low high factor base pair₀ scaled₀ pair scaled = 512 - pair
 
 -- at the head of the loop the settings are valid, and what is computed of a pair is its target
 valid-at : (c : tie.At-loop Inv-loop μ-loop) → validSettings (c .before .before .before .before .before .args .settings) ≡ true
@@ -39,14 +39,8 @@ computed-is c p =
     (rw (toZ-ofZ (start .fits .temperature)) at (c .before .before .temperature-factor .ensures .0))
     refl (c .before .base-of .ensures .0)
 
-valid-requires : tie.Need-valid-requires Inv-loop μ-loop
-valid-requires c κs = search needs
-
 returns : tie.Need-returns Inv-loop μ-loop
 returns c = (sym (c .before .valid .ensures) ∙ not-true _ (c .if1 .taken), refl)
-
-temperature-factor-requires : tie.Need-temperature-factor-requires Inv-loop μ-loop
-temperature-factor-requires c κs = search needs
 
 base-of-requires : tie.Need-base-of-requires Inv-loop μ-loop
 base-of-requires c κs = in-range _ (sym (c .before .before .valid .ensures) ∙ not-false _ (c .before .if1 .left)) .contrast-trim
@@ -57,17 +51,11 @@ loop-holds c = (omega arith, ((λ p h. absurd (omega arith)), λ h. absurd (h re
 scaled-at-requires : tie.Need-scaled-at-requires Inv-loop μ-loop
 scaled-at-requires c κs = ((c .before .before .before .temperature-factor .ensures .1, omega arith), c .before .loop .inv .1 .1)
 
-cast-contrast : tie.Need-cast-contrast Inv-loop μ-loop
-cast-contrast c = search needs
-
 in-band-requires : tie.Need-in-band-requires Inv-loop μ-loop
 in-band-requires c κs = (
   rw (c .scaled-at .ensures) (scaled-below _ _ (c .before .before .before .before .temperature-factor .ensures .1) (gain-below _ (omega arith))),
   (c .before .before .before .base-of .ensures .1, omega arith),
 )
-
-cast-t17 : tie.Need-cast-t17 Inv-loop μ-loop
-cast-t17 c = search needs
 
 returns-2 : tie.Need-returns-2 Inv-loop μ-loop
 returns-2 c =
@@ -81,12 +69,6 @@ returns-2 c =
             (sym (c .before .in-band .ensures) ∙ c .if2 .taken);
       },
     )
-
-add-pair : tie.Need-add-pair Inv-loop μ-loop
-add-pair c = search needs
-
-loop-less : tie.Need-loop-less Inv-loop μ-loop
-loop-less c = search needs
 
 loop-again : tie.Need-loop-again Inv-loop μ-loop
 loop-again c =
@@ -121,17 +103,17 @@ find-setting-spec =
     (tie.spec
     Inv-loop
     μ-loop
-    valid-requires
+    (λ c κs. search needs)
     returns
-    temperature-factor-requires
+    (λ c κs. search needs)
     base-of-requires
     loop-holds
     scaled-at-requires
-    cast-contrast
+    (λ c. search needs)
     in-band-requires
-    cast-t17
+    (λ c. search needs)
     returns-2
-    add-pair
-    loop-less
+    (λ c. search needs)
+    (λ c. search needs)
     loop-again
     returns-3)

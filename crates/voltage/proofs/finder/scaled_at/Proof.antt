@@ -5,12 +5,6 @@ use native.Mathlib.Omega.{arith}
 use Rattle.voltage.proofs.finder.scaled_at.Statement.{statement}
 use Rattle.voltage.proofs.finder.scaled_at.Tie as tie
 
-cast-gain-of : tie.Need-cast-gain-of
-cast-gain-of c = search needs
-
-gain-of-requires : tie.Need-gain-of-requires
-gain-of-requires c κs = search needs
-
 mul-result : tie.Need-mul-result
 mul-result c = omega (arith, scaled-below _ _ (c .before .before .pre .0 .0) (c .gain-of .ensures .1))
 
@@ -21,4 +15,4 @@ returns-2 : tie.Need-returns-2
 returns-2 c = c .before .pre .1 (c .if1 .left)
 
 pub scaled-at-spec : {M : Type 1} → statement M
-scaled-at-spec = tie.close (tie.spec cast-gain-of gain-of-requires mul-result returns returns-2)
+scaled-at-spec = tie.close (tie.spec (λ c. search needs) (λ c κs. search needs) mul-result returns returns-2)

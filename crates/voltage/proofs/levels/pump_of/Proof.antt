@@ -5,22 +5,10 @@ use mathlib.Core.Bool.{cond}
 use native.Mathlib.Nat.{mul-le-mul}
 use Rattle.voltage.proofs.Numbers.{at-most-limit}
 use Rattle.voltage.specs.Check.{hasBit}
-use Rattle.voltage.specs.Voltage.{multiple, pump}
+use Rattle.voltage.specs.Voltage.{pump}
 use native.Mathlib.Omega.{arith}
 use Rattle.voltage.proofs.levels.pump_of.Statement.{statement}
 use Rattle.voltage.proofs.levels.pump_of.Tie as tie
-
-pump-present-requires : tie.Need-pump-present-requires
-pump-present-requires c κs = search needs
-
-cast-microvolts : tie.Need-cast-microvolts
-cast-microvolts c = search needs
-
-mul-microvolts : tie.Need-mul-microvolts
-mul-microvolts c = search needs
-
-multiple-of-requires : tie.Need-multiple-of-requires
-multiple-of-requires c κs = search needs
 
 mul-microvolts-2 : tie.Need-mul-microvolts-2
 mul-microvolts-2 c =
@@ -28,9 +16,6 @@ mul-microvolts-2 c =
     let m : c .multiple-of .result ≤ 8 = rw (c .multiple-of .ensures) (at-most-limit 8 (3 + booster % 4 + cond (hasBit booster 3) 4 0)) in
     let v : c .before .before .before .args .supply .«supply_millivolts» * 1000 ≤ 65535000 = omega arith in
     omega (arith, mul-le-mul v m)
-
-level-at-requires : tie.Need-level-at-requires
-level-at-requires c κs = search needs
 
 returns : tie.Need-returns
 unfolding pump
@@ -40,10 +25,10 @@ pub pump-of-spec : {M : Type 1} → statement M
 pump-of-spec =
     tie.close
     (tie.spec
-    pump-present-requires
-    cast-microvolts
-    mul-microvolts
-    multiple-of-requires
+    (λ c κs. search needs)
+    (λ c. search needs)
+    (λ c. search needs)
+    (λ c κs. search needs)
     mul-microvolts-2
-    level-at-requires
+    (λ c κs. search needs)
     returns)

@@ -1,4 +1,4 @@
--- `voltage::levels::pump_present` meets its contract. The temperature goes to `in_range` as bits, whose number is the
+-- `voltage::levels::pump_present` meets its contract. The temperature goes to `works_at` as bits, whose number is the
 -- temperature, since it fits.
 use borrow.Author.Needs.{needs}
 use Rattle.voltage.specs.Voltage.{pumpPresent}
@@ -7,21 +7,15 @@ use mir.Syntax.{w32}
 use Rattle.voltage.proofs.levels.pump_present.Statement.{statement}
 use Rattle.voltage.proofs.levels.pump_present.Tie as tie
 
-has-bit-requires : tie.Need-has-bit-requires
-has-bit-requires c κs = search needs
-
-in-range-requires : tie.Need-in-range-requires
-in-range-requires c κs = search needs
-
 returns : tie.Need-returns
 unfolding pumpPresent
 returns c =
-    let at-in-range = c .before .before in
-    let at-has-bit = at-in-range .before .before .before in
+    let at-works-at = c .before .before in
+    let at-has-bit = at-works-at .before .before .before in
     let at-struct-told = at-has-bit .before in
     let start = at-struct-told .before in
     let back = toZ-ofZ {w = w32} {z = start .args .supply .«temperature_millicelsius»} (record { sfits = at-struct-told .struct-told .given .1 .0 .1 }) in
-    simp (at-has-bit .has-bit .ensures, at-in-range .in-range .ensures, back)
+    simp (at-has-bit .has-bit .ensures, at-works-at .works-at .ensures, back)
 
 pub pump-present-spec : {M : Type 1} → statement M
-pump-present-spec = tie.close (tie.spec has-bit-requires in-range-requires returns)
+pump-present-spec = tie.close (tie.spec (λ c κs. search needs) (λ c κs. search needs) returns)

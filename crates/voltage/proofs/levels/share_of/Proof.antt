@@ -11,20 +11,11 @@ use Rattle.voltage.proofs.levels.share_of.Tie as tie
 product : (c : tie.After-wide2) → c .before .before .args .target * c .wide2 .result ≤ 2 ^ 32 * 256
 product c = mul-le-mul {n₂ = 2 ^ 32} {m₂ = 256} (omega arith) (omega arith)
 
-wide-requires : tie.Need-wide-requires
-wide-requires c κs = search needs
-
-wide-requires-2 : tie.Need-wide-requires-2
-wide-requires-2 c κs = search needs
-
 mul-sum : tie.Need-mul-sum
 mul-sum c = omega (arith, product c)
 
 add-sum : tie.Need-add-sum
 add-sum c = omega (arith, product c)
-
-div-result : tie.Need-div-result
-div-result c = search needs
 
 cast-result : tie.Need-cast-result
 unfolding share
@@ -40,4 +31,4 @@ returns c = rw (c .wide2 .ensures, c .before .wide .ensures)
 pub share-of-spec : {M : Type 1} → statement M
 share-of-spec =
     tie.close
-    (tie.spec wide-requires wide-requires-2 mul-sum add-sum div-result cast-result returns)
+    (tie.spec (λ c κs. search needs) (λ c κs. search needs) mul-sum add-sum (λ c. search needs) cast-result returns)

@@ -4,46 +4,13 @@ use borrow.Author.Needs.{needs}
 use mir.Facts.{toZ-ofZ}
 use mir.Syntax.{w32}
 use Rattle.voltage.specs.Voltage.{voltages, levels}
-use Rattle.voltage.proofs.Laws.{in-range}
+use Rattle.voltage.proofs.Checks.{in-range}
 use native.Mathlib.Omega.{arith}
 use Rattle.voltage.proofs.levels.voltages_of.Statement.{statement}
 use Rattle.voltage.proofs.levels.voltages_of.Tie as tie
 
-target-of-requires : tie.Need-target-of-requires
-target-of-requires c κs = search needs
-
-pump-of-requires : tie.Need-pump-of-requires
-pump-of-requires c κs = search needs
-
-v0-present-requires : tie.Need-v0-present-requires
-v0-present-requires c κs = search needs
-
-has-bit-requires : tie.Need-has-bit-requires
-has-bit-requires c κs = search needs
-
 add-n : tie.Need-add-n
 add-n c = omega (arith, in-range _ (c .before .before .before .before .before .before .pre) .bias)
-
-level-at-requires : tie.Need-level-at-requires
-level-at-requires c κs = search needs
-
-sub-share-level : tie.Need-sub-share-level
-sub-share-level c = search needs
-
-share-level-requires : tie.Need-share-level-requires
-share-level-requires c κs = search needs
-
-sub-share-level-2 : tie.Need-sub-share-level-2
-sub-share-level-2 c = search needs
-
-share-level-requires-2 : tie.Need-share-level-requires-2
-share-level-requires-2 c κs = search needs
-
-share-level-requires-3 : tie.Need-share-level-requires-3
-share-level-requires-3 c κs = search needs
-
-share-level-requires-4 : tie.Need-share-level-requires-4
-share-level-requires-4 c κs = search needs
 
 returns : tie.Need-returns
 unfolding voltages levels
@@ -75,16 +42,16 @@ pub voltages-of-spec : {M : Type 1} → statement M
 voltages-of-spec =
     tie.close
     (tie.spec
-    target-of-requires
-    pump-of-requires
-    v0-present-requires
-    has-bit-requires
+    (λ c κs. search needs)
+    (λ c κs. search needs)
+    (λ c κs. search needs)
+    (λ c κs. search needs)
     add-n
-    level-at-requires
-    sub-share-level
-    share-level-requires
-    sub-share-level-2
-    share-level-requires-2
-    share-level-requires-3
-    share-level-requires-4
+    (λ c κs. search needs)
+    (λ c. search needs)
+    (λ c κs. search needs)
+    (λ c. search needs)
+    (λ c κs. search needs)
+    (λ c κs. search needs)
+    (λ c κs. search needs)
     returns)

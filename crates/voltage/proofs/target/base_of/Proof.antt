@@ -8,18 +8,9 @@ use native.Mathlib.Omega.{arith}
 use Rattle.voltage.proofs.target.base_of.Statement.{statement}
 use Rattle.voltage.proofs.target.base_of.Tie as tie
 
-has-bit-requires : tie.Need-has-bit-requires
-has-bit-requires c κs = search needs
-
 returns : tie.Need-returns
 unfolding trim
 returns c = (rw (sym (c .before .has-bit .ensures) ∙ not-true _ (c .if1 .taken)), omega arith)
-
-wide-requires : tie.Need-wide-requires
-wide-requires c κs = search needs
-
-add-result : tie.Need-add-result
-add-result c = search needs
 
 returns-2 : tie.Need-returns-2
 unfolding trim
@@ -28,12 +19,6 @@ returns-2 c = (
       (simp (← c .before .wide .ensures, lt-ltb _ _ (c .if2 .taken))),
   omega arith,
 )
-
-add-result-2 : tie.Need-add-result-2
-add-result-2 c = search needs
-
-sub-result : tie.Need-sub-result
-sub-result c = search needs
 
 returns-3 : tie.Need-returns-3
 unfolding trim
@@ -47,11 +32,11 @@ pub base-of-spec : {M : Type 1} → statement M
 base-of-spec =
     tie.close
     (tie.spec
-    has-bit-requires
+    (λ c κs. search needs)
     returns
-    wide-requires
-    add-result
+    (λ c κs. search needs)
+    (λ c. search needs)
     returns-2
-    add-result-2
-    sub-result
+    (λ c. search needs)
+    (λ c. search needs)
     returns-3)

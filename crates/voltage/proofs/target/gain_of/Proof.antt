@@ -7,12 +7,6 @@ use native.Mathlib.Omega.{arith}
 use Rattle.voltage.proofs.target.gain_of.Statement.{statement}
 use Rattle.voltage.proofs.target.gain_of.Tie as tie
 
-mul-result : tie.Need-mul-result
-mul-result c = search needs
-
-array-read-result : tie.Need-array-read-result
-array-read-result c = search needs
-
 cast-result : tie.Need-cast-result
 unfolding gain
 cast-result c = omega (arith, gain-is _ (c .pre))
@@ -22,4 +16,4 @@ unfolding gain
 returns c = (refl, omega (arith, gain-is _ (c .pre)))
 
 pub gain-of-spec : {M : Type 1} → statement M
-gain-of-spec = tie.close (tie.spec mul-result array-read-result cast-result returns)
+gain-of-spec = tie.close (tie.spec (λ c. search needs) (λ c. search needs) cast-result returns)

@@ -13,9 +13,6 @@ mul-microvolts c = omega (arith, mul-le-mul (le-of-lt (c .pre .0)) (le-of-lt (c 
 add-microvolts : tie.Need-add-microvolts
 add-microvolts c = omega (arith, mul-le-mul (le-of-lt (c .pre .0)) (le-of-lt (c .pre .1)))
 
-cast-result : tie.Need-cast-result
-cast-result c = search needs
-
 returns : tie.Need-returns
 unfolding rounded
 returns c = simp (le-leb _ _ (c .if1 .taken))
@@ -26,4 +23,4 @@ returns-2 c = simp (lt-leb _ _ (c .if1 .left))
 
 pub microvolts-of-spec : {M : Type 1} → statement M
 microvolts-of-spec =
-    tie.close (tie.spec mul-microvolts add-microvolts cast-result returns returns-2)
+    tie.close (tie.spec mul-microvolts add-microvolts (λ c. search needs) returns returns-2)

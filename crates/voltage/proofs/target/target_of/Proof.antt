@@ -4,13 +4,10 @@ use mathlib.Core.Path.{_∙_}
 use mir.Facts.{toZ-ofZ}
 use Rattle.voltage.specs.Voltage.{target}
 use Rattle.voltage.proofs.Numbers.{scaled-below, target-is}
-use Rattle.voltage.proofs.Laws.{in-range}
+use Rattle.voltage.proofs.Checks.{in-range}
 use native.Mathlib.Omega.{arith}
 use Rattle.voltage.proofs.target.target_of.Statement.{statement}
 use Rattle.voltage.proofs.target.target_of.Tie as tie
-
-temperature-factor-requires : tie.Need-temperature-factor-requires
-temperature-factor-requires c κs = search needs
 
 base-of-requires : tie.Need-base-of-requires
 base-of-requires c κs = in-range _ (c .before .pre) .contrast-trim
@@ -20,12 +17,6 @@ gain-of-requires c κs = omega (arith, in-range _ (c .before .before .pre) .regu
 
 mul-scaled : tie.Need-mul-scaled
 mul-scaled c = omega (arith, scaled-below _ _ (c .before .before .temperature-factor .ensures .1) (c .gain-of .ensures .1))
-
-wide-requires : tie.Need-wide-requires
-wide-requires c κs = search needs
-
-add-microvolts-of : tie.Need-add-microvolts-of
-add-microvolts-of c = search needs
 
 microvolts-of-requires : tie.Need-microvolts-of-requires
 microvolts-of-requires c κs = (
@@ -47,11 +38,11 @@ pub target-of-spec : {M : Type 1} → statement M
 target-of-spec =
     tie.close
     (tie.spec
-    temperature-factor-requires
+    (λ c κs. search needs)
     base-of-requires
     gain-of-requires
     mul-scaled
-    wide-requires
-    add-microvolts-of
+    (λ c κs. search needs)
+    (λ c. search needs)
     microvolts-of-requires
     returns)

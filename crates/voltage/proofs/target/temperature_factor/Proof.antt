@@ -9,21 +9,12 @@ use native.Mathlib.Omega.{arith}
 use Rattle.voltage.proofs.target.temperature_factor.Statement.{statement}
 use Rattle.voltage.proofs.target.temperature_factor.Tie as tie
 
-from-lowest-requires : tie.Need-from-lowest-requires
-from-lowest-requires c κs = search needs
-
-falling-requires : tie.Need-falling-requires
-falling-requires c κs = search needs
-
 returns : tie.Need-returns
 unfolding temperatureFactor
 returns c =
     let start = c .before .before .before in
     let e = rw (toZ-ofZ (start .fits .temperature)) at (c .before .before .from-lowest .ensures .0) in
     (rw (eq-eqb _ _ (c .before .if1 .taken)) (c .falling .ensures ∙ sym (factor-is _ 125 (start .args .temperature) e)), omega arith)
-
-falling-requires-2 : tie.Need-falling-requires-2
-falling-requires-2 c κs = search needs
 
 returns-2 : tie.Need-returns-2
 unfolding temperatureFactor
@@ -34,4 +25,4 @@ returns-2 c =
 
 pub temperature-factor-spec : {M : Type 1} → statement M
 temperature-factor-spec =
-    tie.close (tie.spec from-lowest-requires falling-requires returns falling-requires-2 returns-2)
+    tie.close (tie.spec (λ c κs. search needs) (λ c κs. search needs) returns (λ c κs. search needs) returns-2)

@@ -1,63 +1,48 @@
 -- `clock::edges::Clock::edges_to` meets its contract.
+use mathlib.Core.Path.{sym, _∙_, ap}
 use borrow.Author.Needs.{needs}
-use Rattle.clock.proofs.Tests.{failed, passed}
-use Rattle.clock.specs.Clock.{countEdges}
+use Rattle.checks.proofs.Tests.{failed, passed}
+use Rattle.clock.specs.Check.{refused}
+use Rattle.clock.specs.Edges.{countEdges}
+use Rattle.clock.proofs.Answers.{check-valid}
 use Rattle.clock.proofs.edges.Clock.edges_to.Statement.{statement}
 use Rattle.clock.proofs.edges.Clock.edges_to.Tie as tie
-
-in-range-requires : tie.Need-in-range-requires
-in-range-requires c κs = search needs
 
 returns : tie.Need-returns
 unfolding countEdges
 returns c = simp (failed (c .before .in-range .ensures) (c .if1 .taken))
 
-is-lcd-requires : tie.Need-is-lcd-requires
-is-lcd-requires c κs = search needs
-
 returns-2 : tie.Need-returns-2
 unfolding countEdges
-returns-2 c = simp (passed (c .before .before .before .in-range .ensures) (c .before .before .if1 .left), failed (c .before .is-lcd .ensures) (c .if2 .taken))
+returns-2 c =
+    let at-checked = c .before .before .before in
+    let at-if1 = at-checked .before in
+    simp (passed (at-if1 .before .in-range .ensures) (at-if1 .if1 .left), sym (at-checked .checked .ensures) ∙ ap refused (c .before .check .given .1))
 
-valid-requires : tie.Need-valid-requires
-valid-requires c κs = passed (c .before .is-lcd .ensures) (c .if2 .left)
+count-to-requires : tie.Need-count-to-requires
+count-to-requires c κs =
+    let at-checked = c .before .before in
+    let at-if1 = at-checked .before in
+    let a = at-if1 .before .before .args in
+    let rows = check-valid (a .self) (a .rate) _ (at-checked .checked .ensures) (c .enum-told .given .1) in
+    (rows .0, (rows .1, passed (at-if1 .before .in-range .ensures) (at-if1 .if1 .left)))
 
 returns-3 : tie.Need-returns-3
 unfolding countEdges
 returns-3 c =
-    let at-if2 = c .before .before in
-    let at-is-lcd = at-if2 .before in
-    let at-if1 = at-is-lcd .before in
-    let at-in-range = at-if1 .before in
-    simp (passed (at-in-range .in-range .ensures) (at-if1 .if1 .left), passed (at-is-lcd .is-lcd .ensures) (at-if2 .if2 .left), failed (c .before .valid .ensures) (c .if3 .taken))
-
-count-to-requires : tie.Need-count-to-requires
-count-to-requires c κs =
-    let at-if2 = c .before .before in
-    let at-is-lcd = at-if2 .before in
-    let at-if1 = at-is-lcd .before in
-    let at-in-range = at-if1 .before in
-    (passed (at-is-lcd .is-lcd .ensures) (at-if2 .if2 .left), (passed (c .before .valid .ensures) (c .if3 .left), passed (at-in-range .in-range .ensures) (at-if1 .if1 .left)))
-
-returns-4 : tie.Need-returns-4
-unfolding countEdges
-returns-4 c =
-    let at-valid = c .before .before in
-    let at-if2 = at-valid .before in
-    let at-is-lcd = at-if2 .before in
-    let at-if1 = at-is-lcd .before in
-    let at-in-range = at-if1 .before in
-    simp (passed (at-in-range .in-range .ensures) (at-if1 .if1 .left), passed (at-is-lcd .is-lcd .ensures) (at-if2 .if2 .left), passed (at-valid .valid .ensures) (c .before .if3 .left), c .count-to .ensures)
+    let at-checked = c .before .before .before in
+    let at-if1 = at-checked .before in
+    simp (passed (at-if1 .before .in-range .ensures) (at-if1 .if1 .left), sym (at-checked .checked .ensures) ∙ ap refused (c .before .enum-told .given .1), c .count-to .ensures)
 
 pub edges-to-spec : {M : Type 1} → statement M
 edges-to-spec =
     tie.close
     (tie.spec
-    in-range-requires
+    (λ c κs. search needs)
     returns
-    is-lcd-requires
+    (λ c κs. search needs)
+    (λ c. search needs)
     returns-2
-    valid-requires
-    returns-3
+    (λ c. search needs)
     count-to-requires
-    returns-4)
+    returns-3)

@@ -1,19 +1,13 @@
 -- `clock::edges::Clock::new` meets its contract.
 use borrow.Author.Needs.{needs}
-use Rattle.clock.proofs.Tests.{failed, passed}
-use Rattle.clock.specs.Clock.{newClock}
+use Rattle.checks.proofs.Tests.{failed, passed}
+use Rattle.clock.specs.Edges.{newClock}
 use Rattle.clock.proofs.edges.Clock.new.Statement.{statement}
 use Rattle.clock.proofs.edges.Clock.new.Tie as tie
-
-in-range-requires : tie.Need-in-range-requires
-in-range-requires c κs = search needs
 
 returns : tie.Need-returns
 unfolding newClock
 returns c = simp (failed (c .before .in-range .ensures) (c .if1 .taken))
-
-is-lcd-requires : tie.Need-is-lcd-requires
-is-lcd-requires c κs = search needs
 
 returns-2 : tie.Need-returns-2
 unfolding newClock
@@ -33,4 +27,4 @@ returns-3 c =
 pub new-spec : {M : Type 1} → statement M
 new-spec =
     tie.close
-    (tie.spec in-range-requires returns is-lcd-requires returns-2 start-requires returns-3)
+    (tie.spec (λ c κs. search needs) returns (λ c κs. search needs) returns-2 start-requires returns-3)

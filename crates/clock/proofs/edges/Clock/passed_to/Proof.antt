@@ -1,87 +1,65 @@
 -- `clock::edges::Clock::passed_to` meets its contract.
+use mathlib.Core.Path.{sym, _∙_, ap}
 use native.Mathlib.Nat.{le-trans, min-le-left}
 use borrow.Author.Needs.{needs}
+use Rattle.checks.proofs.Tests.{failed, passed}
+use Rattle.clock.specs.Check.{refused}
+use Rattle.clock.specs.Edges.{passEdges}
+use Rattle.clock.proofs.Answers.{check-valid}
+use Rattle.clock.proofs.Laws.{edges-le}
 use Rattle.clock.proofs.Rates.{lcd-bounds}
-use Rattle.clock.proofs.Positions.{edges-le}
-use Rattle.clock.proofs.Tests.{failed, passed}
-use Rattle.clock.specs.Clock.{passEdges}
 use Rattle.clock.proofs.edges.Clock.passed_to.Statement.{statement}
 use Rattle.clock.proofs.edges.Clock.passed_to.Tie as tie
-
-in-range-requires : tie.Need-in-range-requires
-in-range-requires c κs = search needs
 
 returns : tie.Need-returns
 unfolding passEdges
 returns c = simp (failed (c .before .in-range .ensures) (c .if1 .taken))
 
-is-lcd-requires : tie.Need-is-lcd-requires
-is-lcd-requires c κs = search needs
-
 returns-2 : tie.Need-returns-2
 unfolding passEdges
-returns-2 c = simp (passed (c .before .before .before .in-range .ensures) (c .before .before .if1 .left), failed (c .before .is-lcd .ensures) (c .if2 .taken))
+returns-2 c =
+    let at-checked = c .before .before .before in
+    let at-if1 = at-checked .before in
+    simp (passed (at-if1 .before .in-range .ensures) (at-if1 .if1 .left), sym (at-checked .checked .ensures) ∙ ap refused (c .before .check .given .1))
 
-valid-requires : tie.Need-valid-requires
-valid-requires c κs = passed (c .before .is-lcd .ensures) (c .if2 .left)
+count-to-requires : tie.Need-count-to-requires
+count-to-requires c κs =
+    let at-checked = c .before .before in
+    let at-if1 = at-checked .before in
+    let a = at-if1 .before .before .args in
+    let rows = check-valid (a .self) (a .rate) _ (at-checked .checked .ensures) (c .enum-told .given .1) in
+    (rows .0, (rows .1, passed (at-if1 .before .in-range .ensures) (at-if1 .if1 .left)))
+
+move-by-requires : tie.Need-move-by-requires
+move-by-requires c κs =
+    let at-enum-told = c .before .before in
+    let at-checked = at-enum-told .before .before in
+    let at-if1 = at-checked .before in
+    let a = at-if1 .before .before .args in
+    let rows = check-valid (a .self) (a .rate) _ (at-checked .checked .ensures) (at-enum-told .enum-told .given .1) in
+    let le = edges-le (a .self) (a .rate) (lcd-bounds (a .rate) (rows .0)) (a .now) (passed (at-if1 .before .in-range .ensures) (at-if1 .if1 .left)) in
+    (rows .0, (rows .1, rw (c .smaller .ensures, c .before .count-to .ensures) (le-trans (min-le-left _ _) le)))
 
 returns-3 : tie.Need-returns-3
 unfolding passEdges
 returns-3 c =
-    let at-if2 = c .before .before in
-    let at-is-lcd = at-if2 .before in
-    let at-if1 = at-is-lcd .before in
-    let at-in-range = at-if1 .before in
-    simp (passed (at-in-range .in-range .ensures) (at-if1 .if1 .left), passed (at-is-lcd .is-lcd .ensures) (at-if2 .if2 .left), failed (c .before .valid .ensures) (c .if3 .taken))
-
-count-to-requires : tie.Need-count-to-requires
-count-to-requires c κs =
-    let at-if2 = c .before .before in
-    let at-is-lcd = at-if2 .before in
-    let at-if1 = at-is-lcd .before in
-    let at-in-range = at-if1 .before in
-    (passed (at-is-lcd .is-lcd .ensures) (at-if2 .if2 .left), (passed (c .before .valid .ensures) (c .if3 .left), passed (at-in-range .in-range .ensures) (at-if1 .if1 .left)))
-
-smaller-requires : tie.Need-smaller-requires
-smaller-requires c κs = search needs
-
-move-by-requires : tie.Need-move-by-requires
-move-by-requires c κs =
-    let at-if3 = c .before .before in
-    let at-valid = at-if3 .before in
-    let at-if2 = at-valid .before in
-    let at-is-lcd = at-if2 .before in
-    let at-if1 = at-is-lcd .before in
-    let at-in-range = at-if1 .before in
-    let start = at-in-range .before in
-    let a = start .args in
-    let lcd = passed (at-is-lcd .is-lcd .ensures) (at-if2 .if2 .left) in
-    let le = edges-le (a .rate) (lcd-bounds (a .rate) lcd) (a .self) (a .now) (passed (at-in-range .in-range .ensures) (at-if1 .if1 .left)) in
-    (lcd, (passed (at-valid .valid .ensures) (at-if3 .if3 .left), rw (c .smaller .ensures, c .before .count-to .ensures) (le-trans (min-le-left _ _) le)))
-
-returns-4 : tie.Need-returns-4
-unfolding passEdges
-returns-4 c =
     let at-count-to = c .before .before in
-    let at-if3 = at-count-to .before in
-    let at-valid = at-if3 .before in
-    let at-if2 = at-valid .before in
-    let at-is-lcd = at-if2 .before in
-    let at-if1 = at-is-lcd .before in
-    let at-in-range = at-if1 .before in
-    simp (passed (at-in-range .in-range .ensures) (at-if1 .if1 .left), passed (at-is-lcd .is-lcd .ensures) (at-if2 .if2 .left), passed (at-valid .valid .ensures) (at-if3 .if3 .left), c .move-by .ensures, c .before .smaller .ensures, at-count-to .count-to .ensures)
+    let at-enum-told = at-count-to .before in
+    let at-checked = at-enum-told .before .before in
+    let at-if1 = at-checked .before in
+    simp (passed (at-if1 .before .in-range .ensures) (at-if1 .if1 .left), sym (at-checked .checked .ensures) ∙ ap refused (at-enum-told .enum-told .given .1), c .move-by .ensures, c .before .smaller .ensures, at-count-to .count-to .ensures)
 
 pub passed-to-spec : {M : Type 1} → statement M
 passed-to-spec =
     tie.close
     (tie.spec
-    in-range-requires
+    (λ c κs. search needs)
     returns
-    is-lcd-requires
+    (λ c κs. search needs)
+    (λ c. search needs)
     returns-2
-    valid-requires
-    returns-3
+    (λ c. search needs)
     count-to-requires
-    smaller-requires
+    (λ c κs. search needs)
     move-by-requires
-    returns-4)
+    returns-3)

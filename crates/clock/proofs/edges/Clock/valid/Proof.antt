@@ -1,67 +1,50 @@
 -- `clock::edges::Clock::valid` meets its contract.
-use borrow.Author.Tests.{lt-ltb, le-ltb}
 use borrow.Author.Needs.{needs}
-use Rattle.clock.proofs.Tests.{failed, passed}
-use Rattle.clock.specs.Clock.{position, validClock}
+use mathlib.Core.Bool.{_&&_}
+use mathlib.Core.Path.{refl, sym, _∙_}
+use borrow.Author.Tests.{not-false, ltb-true}
+use Rattle.checks.proofs.Tests.{both, failed, passed}
+use Rattle.clock.specs.Position.{position}
+use Rattle.clock.specs.Check.{validClock}
 use Rattle.clock.proofs.Positions.{ordinal-test}
 use Rattle.clock.proofs.Rates.{lcd-bounds}
 use Rattle.clock.proofs.edges.Clock.valid.Statement.{statement}
 use Rattle.clock.proofs.edges.Clock.valid.Tie as tie
 
-is-of-rate-requires : tie.Need-is-of-rate-requires
-is-of-rate-requires c κs = search needs
-
 returns : tie.Need-returns
-unfolding validClock position
-returns c = simp (failed (c .before .is-of-rate .ensures) (c .if1 .taken))
-
-returns-2 : tie.Need-returns-2
-unfolding validClock position
-returns-2 c = simp (passed (c .before .before .before .before .is-of-rate .ensures) (c .before .before .before .if1 .left), le-ltb _ _ (c .if2 .taken))
-
-in-range-requires : tie.Need-in-range-requires
-in-range-requires c κs = search needs
-
-returns-3 : tie.Need-returns-3
-unfolding validClock position
-returns-3 c =
-    let at-if2 = c .before .before in
-    let at-if1 = at-if2 .before .before .before in
-    let at-is-of-rate = at-if1 .before in
-    simp (passed (at-is-of-rate .is-of-rate .ensures) (at-if1 .if1 .left), lt-ltb _ _ (at-if2 .if2 .left), failed (c .before .in-range .ensures) (c .if3 .taken))
+unfolding validClock
+returns c =
+    let at-is-of-rate = c .before .before .before .before in
+    let e = failed {r = at-is-of-rate .is-of-rate .result && _ && c .before .in-range .result} refl (c .if1 .taken) in
+    rw (← at-is-of-rate .is-of-rate .ensures, ← c .before .in-range .ensures, e)
 
 position-of-requires : tie.Need-position-of-requires
-position-of-requires c κs = (passed (c .before .in-range .ensures) (c .if3 .left), (c .before .before .before .before .before .before .before .before .pre, c .before .before .if2 .left))
+position-of-requires c κs =
+    let at-is-of-rate = c .before .before .before .before in
+    let start = at-is-of-rate .before .before in
+    let small = both _ (c .before .in-range .result) (not-false _ (c .if1 .left)) in
+    (sym (c .before .in-range .ensures) ∙ small .1, (start .pre, ltb-true _ _ (both (at-is-of-rate .is-of-rate .result) _ (small .0) .1)))
 
 div-result : tie.Need-div-result
 div-result c =
-    let start = c .before .before .before .before .before .before .before .before .before .before .before in
+    let start = c .before .before .before .before .before .before .before .before .before in
     lcd-bounds (start .args .rate) (start .pre) .denominator-low
 
-returns-4 : tie.Need-returns-4
+returns-2 : tie.Need-returns-2
 unfolding validClock position
-returns-4 c =
+returns-2 c =
     let at-position-of = c .before .before .before in
-    let at-if3 = at-position-of .before in
-    let at-in-range = at-if3 .before in
-    let at-if2 = at-in-range .before in
-    let at-if1 = at-if2 .before .before .before in
-    let at-is-of-rate = at-if1 .before in
+    let at-if1 = at-position-of .before in
+    let at-in-range = at-if1 .before in
+    let at-is-of-rate = at-in-range .before .before .before in
     let start = at-is-of-rate .before .before in
     let a = start .args in
     let b = lcd-bounds (a .rate) (start .pre) in
-    simp (passed (at-is-of-rate .is-of-rate .ensures) (at-if1 .if1 .left), lt-ltb _ _ (at-if2 .if2 .left), passed (at-in-range .in-range .ensures) (at-if3 .if3 .left), at-position-of .position-of .ensures)
+    let e = passed {r = at-is-of-rate .is-of-rate .result && _ && at-in-range .in-range .result} refl (at-if1 .if1 .left) in
+    rw (← at-is-of-rate .is-of-rate .ensures, ← at-in-range .in-range .ensures, e, at-position-of .position-of .ensures)
     (ordinal-test (a .self .ordinal) _ (a .rate .denominator) (b .denominator-low))
 
 pub valid-spec : {M : Type 1} → statement M
 valid-spec =
     tie.close
-    (tie.spec
-    is-of-rate-requires
-    returns
-    returns-2
-    in-range-requires
-    returns-3
-    position-of-requires
-    div-result
-    returns-4)
+    (tie.spec (λ c κs. search needs) (λ c κs. search needs) returns position-of-requires div-result returns-2)

@@ -5,19 +5,13 @@ use Rattle.clock.specs.Rate.{isLcd}
 use Rattle.clock.proofs.rate.Rate.is_lcd.Statement.{statement}
 use Rattle.clock.proofs.rate.Rate.is_lcd.Tie as tie
 
-is-by-rows-requires : tie.Need-is-by-rows-requires
-is-by-rows-requires c κs = search needs
-
 returns : tie.Need-returns
 unfolding isLcd
 returns c = rw (sym (c .before .is-by-rows .ensures) ∙ c .if1 .taken)
-
-is-by-oscillator-requires : tie.Need-is-by-oscillator-requires
-is-by-oscillator-requires c κs = search needs
 
 returns-2 : tie.Need-returns-2
 unfolding isLcd
 returns-2 c = rw (sym (c .before .before .is-by-rows .ensures) ∙ c .before .if1 .left) (c .is-by-oscillator .ensures)
 
 pub is-lcd-spec : {M : Type 1} → statement M
-is-lcd-spec = tie.close (tie.spec is-by-rows-requires returns is-by-oscillator-requires returns-2)
+is-lcd-spec = tie.close (tie.spec (λ c κs. search needs) returns (λ c κs. search needs) returns-2)

@@ -9,26 +9,8 @@ use Rattle.clock.specs.Rate.{oscillatorRates}
 use Rattle.clock.proofs.rate.Rate.lcd.Statement.{statement}
 use Rattle.clock.proofs.rate.Rate.lcd.Tie as tie
 
-mul-t10 : tie.Need-mul-t10
-mul-t10 c = search needs
-
 returns : tie.Need-returns
 returns c = simp (eq-eqb _ _ (c .if1 .taken))
-
-cast-denominator : tie.Need-cast-denominator
-cast-denominator c = search needs
-
-add-denominator : tie.Need-add-denominator
-add-denominator c = search needs
-
-cast-setting : tie.Need-cast-setting
-cast-setting c = search needs
-
-mul-t13 : tie.Need-mul-t13
-mul-t13 c = search needs
-
-array-read-t16 : tie.Need-array-read-t16
-array-read-t16 c = search needs
 
 returns-2 : tie.Need-returns-2
 returns-2 c = simp (ne-eqb _ _ (c .before .if1 .left))
@@ -40,12 +22,12 @@ pub lcd-spec : {M : Type 1} → statement M
 lcd-spec =
     tie.close
     (tie.spec
-    mul-t10
+    (λ c. search needs)
     returns
-    cast-denominator
-    add-denominator
-    cast-setting
-    mul-t13
-    array-read-t16
+    (λ c. search needs)
+    (λ c. search needs)
+    (λ c. search needs)
+    (λ c. search needs)
+    (λ c. search needs)
     returns-2
     returns-3)

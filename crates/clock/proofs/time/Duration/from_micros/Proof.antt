@@ -5,11 +5,8 @@ use Rattle.clock.specs.declared.wide.Wide.{Wide}
 use Rattle.clock.proofs.time.Duration.from_micros.Statement.{statement}
 use Rattle.clock.proofs.time.Duration.from_micros.Tie as tie
 
-micros-raw-requires : tie.Need-micros-raw-requires
-micros-raw-requires c κs = search needs
-
 returns : tie.Need-returns
 returns c = ap (λ (w : Wide). record { seconds = w .high; fraction = w .low }) (c .micros-raw .ensures)
 
 pub from-micros-spec : {M : Type 1} → statement M
-from-micros-spec = tie.close (tie.spec micros-raw-requires returns)
+from-micros-spec = tie.close (tie.spec (λ c κs. search needs) returns)

@@ -14,18 +14,9 @@ returns-2 : tie.Need-returns-2
 unfolding commonMicrovolts commonWith
 returns-2 c = simp (le-ltb _ _ (c .before .if1 .left), c .if2 .taken)
 
-enum-known-selected : tie.Need-enum-known-selected
-enum-known-selected c = search needs
-
-enum-told : tie.Need-enum-told
-enum-told c = search needs
-
 returns-3 : tie.Need-returns-3
 unfolding commonMicrovolts commonWith
 returns-3 c = simp (le-ltb _ _ (c .before .before .before .if1 .left), c .before .before .if2 .left, c .enum-told .given .1)
-
-common-level-requires : tie.Need-common-level-requires
-common-level-requires c κs = search needs
 
 returns-4 : tie.Need-returns-4
 unfolding commonMicrovolts commonWith
@@ -41,8 +32,8 @@ common-microvolts-spec =
     (tie.spec
     returns
     returns-2
-    enum-known-selected
-    enum-told
+    (λ c. search needs)
+    (λ c. search needs)
     returns-3
-    common-level-requires
+    (λ c κs. search needs)
     returns-4)

@@ -14,21 +14,9 @@ returns-2 : tie.Need-returns-2
 unfolding segmentMicrovolts segmentWith
 returns-2 c = simp (le-ltb _ _ (c .before .if1 .left), c .if2 .taken)
 
-enum-told : tie.Need-enum-told
-enum-told c = search needs
-
-enum-told-2 : tie.Need-enum-told-2
-enum-told-2 c = search needs
-
 returns-3 : tie.Need-returns-3
 unfolding segmentMicrovolts segmentWith
 returns-3 c = simp (le-ltb _ _ (c .before .before .before .if1 .left), c .before .before .if2 .left, c .enum-told2 .given .1)
-
-active-in-requires : tie.Need-active-in-requires
-active-in-requires c κs = search needs
-
-segment-level-requires : tie.Need-segment-level-requires
-segment-level-requires c κs = search needs
 
 returns-4 : tie.Need-returns-4
 unfolding segmentMicrovolts segmentWith
@@ -44,9 +32,9 @@ segment-microvolts-spec =
     (tie.spec
     returns
     returns-2
-    enum-told
-    enum-told-2
+    (λ c. search needs)
+    (λ c. search needs)
     returns-3
-    active-in-requires
-    segment-level-requires
+    (λ c κs. search needs)
+    (λ c κs. search needs)
     returns-4)

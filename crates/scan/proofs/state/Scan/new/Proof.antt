@@ -1,11 +1,11 @@
 -- `scan::state::Scan::new` meets its contract.
 use mathlib.Core.Path.{refl}
-use Rattle.scan.specs.State.{fresh}
+use Rattle.scan.specs.State.{powerOn}
 use Rattle.scan.proofs.state.Scan.new.Statement.{statement}
 use Rattle.scan.proofs.state.Scan.new.Tie as tie
 
 returns : tie.Need-returns
-unfolding fresh
+unfolding powerOn
 returns c = refl
 
 pub new-spec : {M : Type 1} → statement M

@@ -1,0 +1,2 @@
+-- How checks and answers are written in every crate.
+pub mod Checks

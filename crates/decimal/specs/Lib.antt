@@ -1,0 +1,2 @@
+-- What a text says, as far as decimals go.
+pub mod Decimal

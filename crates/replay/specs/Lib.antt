@@ -1,2 +1,0 @@
--- What a list of cases says.
-pub mod Text
