@@ -1,6 +1,6 @@
--- What each call answers once its checks pass.
-use Prim.Native.Nat.{ℕ}
-use mathlib.Core.Bool.{Bool, _&&_}
+-- What each call answers once its checks pass, and that counting takes at most four pieces.
+use Prim.Native.Nat.{ℕ, _≤_}
+use mathlib.Core.Bool.{Bool, true, _&&_}
 use mathlib.Core.List.{List}
 use mathlib.Core.Option.{Option, none}
 use mathlib.Core.Path.{_≡_, sym, _∙_, ap}
@@ -8,6 +8,7 @@ use native.Mathlib.Omega.{arith}
 use lib.ListN.{length}
 use Rattle.checks.specs.Checks.{unlessRefused, changed}
 use Rattle.clock.specs.declared.time.Time.{Time}
+use Rattle.clock.specs.Time.{inRange}
 use Rattle.voltage.specs.Voltage.{voltages}
 use Rattle.scan.specs.declared.settings.Settings.{Settings}
 use Rattle.scan.specs.declared.state.Scan.{Scan}
@@ -25,6 +26,8 @@ use Rattle.scan.specs.Latch.{retained}
 use Rattle.scan.specs.Run.{stopped, updated, beforeByte, afterByte, fallScan}
 use Rattle.scan.specs.Drive.{driveAt, frameAt, off, answeredDrive, driveScan}
 use Rattle.scan.specs.Image.{image, rendered}
+use Rattle.scan.proofs.Checks.{Valid, ValidSettings}
+use Rattle.scan.proofs.Stages.{at-most-four}
 use Rattle.voltage.specs.declared.Settings as analog
 use Rattle.voltage.specs.Check as analogs
 
@@ -72,6 +75,10 @@ module _ (x : Scan) (s : Settings) (now : Time) where
     drive-passed a c r e h =
         let q = new-of (driveAt x s (voltages a (c .supply)) c now ram icons, frameAt x s c now) (off, 0) e h in
         λ i. record { check = not-refused (r .check) (q .0) i; drive = q .1 i .0; frame = q .1 i .1 }
+
+-- counting answers at most four pieces
+pub pieces-few : (x : Scan) (s : Settings) (now : Time) → Valid x → ValidSettings s → inRange now ≡ true → pieces x s now ≤ 4
+pieces-few x s now v vs i = at-most-four s vs now i x v
 
 -- the image that is left in 6,144 lent bytes
 pub render-passed : (s : Settings) (driven : Bool) (ram icons before : List ℕ) → checkImage s ram icons (length before) ≡ none → rendered s driven ram icons before ≡ image s driven ram

@@ -2,6 +2,7 @@
 -- in one.
 use Prim.Native.Nat.{ℕ, zero, suc, _+_, _<_, _≤_}
 use mathlib.Core.Bool.{Bool, true, false, cond, false≢true}
+use mathlib.Core.List.{List}
 use mathlib.Core.Path.{_≡_, refl, sym, _∙_, ap}
 use native.Mathlib.Omega.{arith}
 use native.Mathlib.Nat.{le-trans, zero-add, suc-add}
@@ -16,6 +17,7 @@ use Rattle.clock.proofs.Answers.{started-at}
 use Rattle.clock.proofs.Laws.{edge-later}
 use Rattle.clock.proofs.Rates.{lcd-bounds}
 use Rattle.scan.specs.Count.{dueAt, due, countFor, countTo}
+use Rattle.scan.specs.Latch.{shown}
 use Rattle.scan.specs.Quantum.{ticked, tickedTo, quantum}
 use Rattle.scan.proofs.Checks.{Valid, ValidSettings}
 use Rattle.scan.proofs.Kept.{quantum-valid}
@@ -129,3 +131,7 @@ module _ (s : Settings) (vs : ValidSettings s) (t u : Time) (i : inRange t ≡ t
     where
       bounded : (x : Scan) → countTo x s t ≡ countFor (raw t + 1) x s t
       bounded x = refl
+
+  -- and so is what is shown
+  pub count-shown : (x : Scan) (ram icons : List ℕ) → Valid x → shown (countTo (countTo x s t) s u) s ram icons ≡ shown (countTo x s u) s ram icons
+  count-shown x ram icons v = ap (λ (y : Scan). shown y s ram icons) (count-count x v)

@@ -1,13 +1,13 @@
--- What the crates above may use: the conditions of the checks, what the calls answer, counting, latch, drive and image.
+-- What the crates above may use: the conditions of the checks, what the calls answer, counting, shades, latch, drive and image.
 mod Numbers
 mod Quanta
 mod Pieces
-mod Shades
+mod Stages
 mod Rows
 pub mod Checks
 pub mod Kept
 pub mod Counting
-pub mod Stages
+pub mod Shades
 pub mod Latches
 pub mod Images
 pub mod Runs

@@ -1,11 +1,11 @@
--- Shades and pulse widths: their bounds.
+-- Shades and pulse widths: their bounds, and that a width beyond PWM gives no pulse.
 use Prim.Native.Nat.{ℕ, _-_, _≤_, _<_}
 use mathlib.Core.Bool.{Bool, true, false, cond}
 use mathlib.Core.List.{List}
 use mathlib.Core.Path.{_≡_, refl}
 use native.Mathlib.Omega.{arith}
 use lib.Dec.{leb}
-use borrow.Author.Tests.{leb-true}
+use borrow.Author.Tests.{leb-true, lt-leb}
 use Rattle.scan.specs.declared.settings.Settings.{Settings}
 use Rattle.scan.specs.Shade.{columnOf, planes, shadeOf, paletteWidth, pulseWidth}
 
@@ -31,3 +31,8 @@ pulse-le s shade phase pwm = go _ (leb (paletteWidth (s .palette) shade phase) p
     go : (n : ℕ) (t : Bool) → leb n pwm ≡ t → cond t n 0 ≤ pwm
     go n true h = leb-true n pwm h
     go n false h = omega arith
+
+-- every palette width above PWM gives no pulse
+pub no-pulse : (s : Settings) (shade phase pwm : ℕ) → pwm < paletteWidth (s .palette) shade phase → pulseWidth s shade phase pwm ≡ 0
+unfolding pulseWidth
+no-pulse s shade phase pwm h = simp (lt-leb (paletteWidth (s .palette) shade phase) pwm h)
