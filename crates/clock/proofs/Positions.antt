@@ -4,7 +4,7 @@ use Prim.Native.Nat.{ℕ, _+_, _-_, _*_, _/_, _%_, _^_, _≤_, _<_}
 use mathlib.Core.Bool.{true, _&&_}
 use mathlib.Core.Path.{_≡_, sym, _∙_, ap}
 use native.Mathlib.Omega.{arith}
-use native.Mathlib.Nat.{div-add-mod', mod-lt, mul-le-mul, mul-le-mul-right, le-div-iff-mul-le, div-lt-iff-lt-mul, div-div-eq-div-mul, mul-comm}
+use native.Mathlib.Nat.{div-add-mod', mod-lt, mul-le-mul, le-div-iff-mul-le, div-lt-iff-lt-mul, mul-add-div-right, mul-add-mod-self-right, div-div-eq-div-mul, mul-comm}
 use lib.Arith.{digits-div, digits-mod}
 use lib.Dec.{leb, ltb, eqb}
 use borrow.Author.Tests.{eq-eqb, eqb-true, lt-ltb, ltb-true}
@@ -57,6 +57,14 @@ module _ (c : Clock) (r : Rate) (b : Bounds r) where
   unfolding isOfRate
   of-rate-by-product e h = rw e (by-product (value (c .whole)) (c .remainder) (r .numerator) (period r) h)
 
+  -- the period's parts
+  pub of-rate-period : isOfRate c r ≡ true → (value (c .whole) * r .numerator + c .remainder ≡ period r) × ((c .remainder < r .numerator) × (c .whole .high ≡ 0))
+  of-rate-period h =
+      let small = both _ _ (of-rate-small h) in
+      let rest = both (eqb (c .denominator) (r .numerator)) _ (small .0) in
+      let below = ltb-true (c .remainder) (r .numerator) (rest .1) in
+      (eqb-true _ _ (of-rate-by-product (rest .0) below ∙ h), (below, eqb-true (c .whole .high) 0 (small .1)))
+
 -- the ordinal's test
 pub ordinal-test : (o n q : ℕ) → 0 < q → leb o (n / 2 ^ 64 / q) ≡ leb (o * (q * 2 ^ 64)) n
 ordinal-test o n q pos =
@@ -64,19 +72,22 @@ ordinal-test o n q pos =
     (λ h. omega (arith, le-div-iff-mul-le {k = q} {x = o} {y = n / 2 ^ 64} pos .0 h))
     (λ h. omega (arith, div-lt-iff-lt-mul {k = q} {x = n / 2 ^ 64} {y = o} pos .0 h))
 
--- the last position that still belongs to now is not before a position not later than now
-pub end-after : (a n p f : ℕ) → f < p → a ≤ n → a * p + f ≤ n * p + (p - 1)
-end-after a n p f h k = omega (arith, mul-le-mul-right p k)
+-- the span to a time in range
+pub span-high-lt : (n a : ℕ) → n < 2 ^ 32 * 2 ^ 64 → (n - a) / 2 ^ 64 < 2 ^ 32
+span-high-lt n a h = omega arith
 
--- from there on, whole edges
-pub edge-count : (n p x q : ℕ) → 0 < p → (n * p + (p - 1) - x) / 2 ^ 64 / q ≡ ((n + 1) * p - 1 - x) / (q * 2 ^ 64)
-edge-count n p x q pos =
-    div-div-eq-div-mul (n * p + (p - 1) - x) (2 ^ 64) q
-    ∙ ap (λ (k : ℕ). (n * p + (p - 1) - x) / k) (mul-comm (2 ^ 64) q)
-    ∙ ap (λ (k : ℕ). (k - x) / (q * 2 ^ 64)) last
+-- whole edges from a position to the last one that still belongs to now
+pub edge-count : (n a p f q : ℕ) → a ≤ n → f < p → ((n - a) * p + (p - 1 - f)) / 2 ^ 64 / q ≡ ((n + 1) * p - 1 - (a * p + f)) / (q * 2 ^ 64)
+edge-count n a p f q le h =
+    div-div-eq-div-mul ((n - a) * p + (p - 1 - f)) (2 ^ 64) q
+    ∙ ap (λ (k : ℕ). ((n - a) * p + (p - 1 - f)) / k) (mul-comm (2 ^ 64) q)
+    ∙ ap (λ (k : ℕ). k / (q * 2 ^ 64)) span
   where
-    last : n * p + (p - 1) ≡ (n + 1) * p - 1
-    last = omega arith
+    parts : n - a + a ≡ n
+    parts = omega arith
+
+    span : (n - a) * p + (p - 1 - f) ≡ (n + 1) * p - 1 - (a * p + f)
+    span = omega (arith, ap (λ (k : ℕ). k * p) parts)
 
 -- a position's high word, for a time in range and an LCD rate
 pub position-high-lt : (a p r : ℕ) → a < 2 ^ 32 * 2 ^ 64 → r < p → p ≤ 184000 → (a * p + r) / 2 ^ 64 < 2 ^ 50
@@ -84,6 +95,35 @@ position-high-lt a p r ha hr hp = div-lt-iff-lt-mul {k = 2 ^ 64} {y = 2 ^ 50} (o
   where
     below : a * p + r < 2 ^ 50 * 2 ^ 64
     below = omega (arith, mul-le-mul {n₁ = a + 1} {m₁ = p} {n₂ = 2 ^ 32 * 2 ^ 64} {m₂ = 184000} (omega arith) hp)
+
+-- n edges of w whole units and s parts of a unit, from time a and fraction f
+module _ (a f n w s p k : ℕ) (pos : 0 < p) (period-parts : w * p + s ≡ k) where
+  after-parts : a * p + f + n * k ≡ (a + w * n) * p + (f + n * s)
+  after-parts = omega (arith, ap (λ (x : ℕ). n * x) period-parts)
+
+  pub after-div : a + (w * n + (f + n * s) / p) ≡ (a * p + f + n * k) / p
+  after-div = sym (ap (λ (x : ℕ). x / p) after-parts ∙ mul-add-div-right pos (a + w * n) (f + n * s) ∙ omega arith)
+
+  pub after-mod : (f + n * s) % p ≡ (a * p + f + n * k) % p
+  after-mod = sym (ap (λ (x : ℕ). x % p) after-parts ∙ mul-add-mod-self-right (a + w * n) p (f + n * s))
+
+-- few edges: their parts fit a word, and the whole units of them fit a half
+module _ (f n s p : ℕ) (f-lt : f < p) (s-lt : s < p) (few : n < 2 ^ 32) where
+  pub parts-lt : f + n * s < 2 ^ 32 * p
+  parts-lt = omega (arith, mul-le-mul {n₁ = n} {m₁ = s} {n₂ = 2 ^ 32 - 1} {m₂ = p - 1} (omega arith) (omega arith))
+
+  pub units-lt : (f + n * s) / p < 2 ^ 32
+  units-lt = div-lt-iff-lt-mul {k = p} {x = f + n * s} {y = 2 ^ 32} (omega arith) .1 parts-lt
+
+-- the high word of their span has room beside the seconds of a time in range
+span-lt : (w n u : ℕ) → w < 2 ^ 64 → n < 2 ^ 32 → u < 2 ^ 32 → w * n + u < 2 ^ 33 * 2 ^ 64
+span-lt w n u hw hn hu = omega (arith, mul-le-mul {n₁ = w} {m₁ = n} {n₂ = 2 ^ 64} {m₂ = 2 ^ 32} (omega arith) (omega arith))
+
+pub few-room : (s w n u : ℕ) → s < 2 ^ 32 → w < 2 ^ 64 → n < 2 ^ 32 → u < 2 ^ 32 → s + (w * n + u) / 2 ^ 64 < 2 ^ 63
+few-room s w n u hs hw hn hu = room ((w * n + u) / 2 ^ 64) (div-lt-iff-lt-mul {k = 2 ^ 64} {x = w * n + u} {y = 2 ^ 33} (omega arith) .1 (span-lt w n u hw hn hu))
+  where
+    room : (k : ℕ) → k < 2 ^ 33 → s + k < 2 ^ 63
+    room k h = omega arith
 
 -- a position moved by whole edges
 pub moved-words : (x n q : ℕ) → (x / 2 ^ 64 + n * q) * 2 ^ 64 + x % 2 ^ 64 ≡ x + n * (q * 2 ^ 64)

@@ -1,4 +1,4 @@
--- Two-word numbers: a product and a quotient by halves of 32 bits, the high word of a difference, and bounds of the parts.
+-- Two-word numbers: a product and a quotient by halves of 32 bits, a difference and a sum, and bounds of the parts.
 use Prim.Native.Nat.{ℕ, _+_, _-_, _*_, _/_, _%_, _^_, _<_, _≤_}
 use mathlib.Core.Path.{_≡_, sym, _∙_, ap}
 use native.Mathlib.Omega.{arith}
@@ -13,9 +13,9 @@ words h {l} {n} b e = λ i. record {
   low = (sym (ap (λ (k : ℕ). k % 2 ^ 64) e ∙ digits-mod h b)) i;
 }
 
--- a product of a half and a short number
-pub half-product : {a m : ℕ} → a < 2 ^ 32 → m < 2 ^ 20 → a * m < 2 ^ 52
-half-product {a} {m} h k = omega (arith, mul-le-mul {n₁ = a} {m₁ = m} {n₂ = 2 ^ 32 - 1} {m₂ = 2 ^ 20 - 1} (omega arith) (omega arith))
+-- a product of two halves
+pub half-product : {a m : ℕ} → a < 2 ^ 32 → m < 2 ^ 32 → a * m ≤ (2 ^ 32 - 1) * (2 ^ 32 - 1)
+half-product {a} {m} h k = mul-le-mul {n₁ = a} {m₁ = m} {n₂ = 2 ^ 32 - 1} {m₂ = 2 ^ 32 - 1} (omega arith) (omega arith)
 
 module _ (h l m c : ℕ) where
   -- the low and the middle column of (h · 2^64 + l) · m + c
@@ -28,12 +28,12 @@ module _ (h l m c : ℕ) where
   pub columns : (h * 2 ^ 64 + l) * m + c ≡ (h * m + middle-column / 2 ^ 32) * 2 ^ 64 + (middle-column % 2 ^ 32 * 2 ^ 32 + low-column % 2 ^ 32)
   columns = omega (arith, ap (λ (k : ℕ). k * m) (div-add-mod' l (2 ^ 32)))
 
-  module _ (mb : m < 2 ^ 20) (cb : c < 2 ^ 20) where
-    pub low-column-lt : low-column < 2 ^ 53
-    low-column-lt = omega (arith, half-product {a = l % 2 ^ 32} (omega arith) mb)
+  module _ (mb : m < 2 ^ 32) (cb : c < 2 ^ 32) where
+    pub low-column-le : low-column ≤ (2 ^ 32 - 1) * 2 ^ 32
+    low-column-le = omega (arith, half-product {a = l % 2 ^ 32} (omega arith) mb)
 
-    pub middle-column-lt : l < 2 ^ 64 → middle-column < 2 ^ 53
-    middle-column-lt b = omega (arith, half-product {a = l / 2 ^ 32} (omega arith) mb, low-column-lt)
+    pub middle-column-le : l < 2 ^ 64 → middle-column ≤ (2 ^ 32 - 1) * 2 ^ 32
+    middle-column-le b = omega (arith, half-product {a = l / 2 ^ 32} (omega arith) mb, low-column-le)
 
 -- one digit of a long division
 module _ (x y d b : ℕ) (pos : 0 < d) where
@@ -89,7 +89,7 @@ long-division h l d pos b = λ i. record { quotient = (words (h / d) low-lt quot
     low-lt : t / d * 2 ^ 32 + u / d < 2 ^ 64
     low-lt = omega (arith, digit-fits h (l / 2 ^ 32) d (2 ^ 32) pos (omega arith), digit-fits t (l % 2 ^ 32) d (2 ^ 32) pos (omega arith))
 
--- the high word of a difference, with and without a borrow
+-- the words of a difference, with and without a borrow
 module _ (ha la hb lb : ℕ) (le : hb * 2 ^ 64 + lb ≤ ha * 2 ^ 64 + la) (a-lt : la < 2 ^ 64) (b-lt : lb < 2 ^ 64) where
   pub high-le : hb ≤ ha
   high-le = omega arith
@@ -97,8 +97,16 @@ module _ (ha la hb lb : ℕ) (le : hb * 2 ^ 64 + lb ≤ ha * 2 ^ 64 + la) (a-lt 
   pub high-lt : la < lb → 1 ≤ ha - hb
   high-lt h = omega arith
 
-  pub borrowed : la < lb → ha - hb - 1 ≡ (ha * 2 ^ 64 + la - (hb * 2 ^ 64 + lb)) / 2 ^ 64
-  borrowed h = omega arith
+  pub borrowed : la < lb → record { high = ha - hb - 1; low = 18446744073709551615 - lb + la + 1 } ≡ wideOf (ha * 2 ^ 64 + la - (hb * 2 ^ 64 + lb))
+  borrowed h = words (ha - hb - 1) (omega arith) (omega arith)
 
-  pub unborrowed : lb ≤ la → ha - hb ≡ (ha * 2 ^ 64 + la - (hb * 2 ^ 64 + lb)) / 2 ^ 64
-  unborrowed h = omega arith
+  pub unborrowed : lb ≤ la → record { high = ha - hb; low = la - lb } ≡ wideOf (ha * 2 ^ 64 + la - (hb * 2 ^ 64 + lb))
+  unborrowed h = words (ha - hb) (omega arith) (omega arith)
+
+-- the words of a sum, with and without a carry
+module _ (ha la hb lb : ℕ) (a-lt : la < 2 ^ 64) (b-lt : lb < 2 ^ 64) where
+  pub uncarried : la ≤ 18446744073709551615 - lb → record { high = ha + hb; low = la + lb } ≡ wideOf (ha * 2 ^ 64 + la + (hb * 2 ^ 64 + lb))
+  uncarried h = words (ha + hb) (omega arith) (omega arith)
+
+  pub carried : 18446744073709551615 - lb < la → record { high = ha + hb + 1; low = la - (18446744073709551615 - lb) - 1 } ≡ wideOf (ha * 2 ^ 64 + la + (hb * 2 ^ 64 + lb))
+  carried h = words (ha + hb + 1) (omega arith) (omega arith)

@@ -2,7 +2,7 @@
 // by a number of edges. Document 01, 'Clock'.
 ghost use mathlib.Core.Path.{_≡_};
 ghost use mathlib.Core.Bool.{true};
-ghost use Prim.Native.Nat.{_^_, _≤_, min};
+ghost use Prim.Native.Nat.{_+_, _/_, _^_, _<_, _≤_, min};
 ghost use Rattle.clock.specs.Rate.{isLcd};
 ghost use Rattle.clock.specs.Time.{inRange};
 ghost use Rattle.clock.specs.Check.{validClock};
@@ -13,8 +13,10 @@ use crate::position::position_of;
 use crate::rate::Rate;
 use crate::time::Time;
 use crate::wide::Wide;
+use crate::wide::difference;
 use crate::wide::div;
-use crate::wide::high_of_difference;
+use crate::wide::mul_add;
+use crate::wide::sum;
 
 // `at` is the time of the last edge passed and `fraction` what it is later than that, in
 // 1 / denominator fraction units; `whole` and `remainder` are the period in the same units.
@@ -47,6 +49,17 @@ fn smaller(a: u64, b: u64) -> u64
     ensures { λ r. ⌜ r ≡ min a b ⌝ }
 {
     if a <= b { a } else { b }
+}
+
+// Most rates are over 1, and a division is slow.
+fn over(n: u64, d: u64) -> u64
+    requires { ⌜ 0 < d ⌝ }
+    ensures { λ r. ⌜ r ≡ n / d ⌝ }
+{
+    if d == 1 {
+        return n;
+    }
+    n / d
 }
 
 fn start(at: Time, rate: Rate) -> Clock
@@ -94,10 +107,18 @@ impl Clock {
         if now.lt(at) {
             return 0;
         }
-        // The last position that still belongs to now.
-        let end = position_of(now, rate.numerator - 1, rate);
-        let begin = position_of(at, self.fraction, rate);
-        high_of_difference(end, begin) / rate.denominator
+        let end = Wide {
+            high: now.seconds,
+            low: now.fraction,
+        };
+        let begin = Wide {
+            high: at.seconds,
+            low: at.fraction,
+        };
+        // From the last edge to the last position that still belongs to now, by one product.
+        let span = difference(end, begin);
+        let passed = mul_add(span, rate.numerator, rate.numerator - 1 - self.fraction);
+        over(passed.high, rate.denominator)
     }
 
     pub fn edges_to(self, rate: Rate, now: Time) -> Edges
@@ -113,7 +134,61 @@ impl Clock {
         Edges::Count(self.count_to(rate, now))
     }
 
-    // The clock moved by so few edges that its position has room in two words.
+    // The clock with another last edge, so many edges further.
+    fn standing(self, last: Wide, fraction: u64, edges: u64) -> Clock
+        requires { ⌜ self .ordinal + edges < 2 ^ 64 ⌝ }
+        ensures { λ r. ⌜ r ≡ record { at = record { seconds = last .high; fraction = last .low }; whole = self .whole; remainder = self .remainder; denominator = self .denominator; fraction = fraction; ordinal = self .ordinal + edges } ⌝ }
+    {
+        let whole = self.whole;
+        Clock {
+            at: Time {
+                seconds: last.high,
+                fraction: last.low,
+            },
+            whole: whole,
+            remainder: self.remainder,
+            denominator: self.denominator,
+            fraction: fraction,
+            ordinal: self.ordinal + edges,
+        }
+    }
+
+    // By few edges: whole units of the periods are a product, so that one short division is left.
+    fn move_few(self, rate: Rate, edges: u64) -> Clock
+        requires { ⌜ isLcd rate ≡ true ⌝ }
+        requires { ⌜ validClock self rate ≡ true ⌝ }
+        requires { ⌜ edges < 2 ^ 32 ⌝ }
+        ensures { λ r. ⌜ r ≡ movedBy self rate edges ⌝ }
+    {
+        let at = self.at;
+        let whole = self.whole;
+        let begin = Wide {
+            high: at.seconds,
+            low: at.fraction,
+        };
+        let parts = self.fraction + edges * self.remainder;
+        let span = mul_add(whole, edges, parts / rate.numerator);
+        self.standing(sum(begin, span), parts % rate.numerator, edges)
+    }
+
+    // By so few edges that the clock's position has room in two words.
+    fn move_many(self, rate: Rate, edges: u64) -> Clock
+        requires { ⌜ isLcd rate ≡ true ⌝ }
+        requires { ⌜ validClock self rate ≡ true ⌝ }
+        requires { ⌜ edges ≤ 2 ^ 50 ⌝ }
+        ensures { λ r. ⌜ r ≡ movedBy self rate edges ⌝ }
+    {
+        let at = self.at;
+        let begin = position_of(at, self.fraction, rate);
+        let end = Wide {
+            high: begin.high + edges * rate.denominator,
+            low: begin.low,
+        };
+        let q = div(end, rate.numerator);
+        let last = q.quotient;
+        self.standing(last, q.remainder, edges)
+    }
+
     fn move_by(self, rate: Rate, edges: u64) -> Clock
         requires { ⌜ isLcd rate ≡ true ⌝ }
         requires { ⌜ validClock self rate ≡ true ⌝ }
@@ -124,26 +199,10 @@ impl Clock {
         if edges == 0 {
             return self;
         }
-        let at = self.at;
-        let whole = self.whole;
-        let begin = position_of(at, self.fraction, rate);
-        let end = Wide {
-            high: begin.high + edges * rate.denominator,
-            low: begin.low,
-        };
-        let q = div(end, rate.numerator);
-        let last = q.quotient;
-        Clock {
-            at: Time {
-                seconds: last.high,
-                fraction: last.low,
-            },
-            whole: whole,
-            remainder: self.remainder,
-            denominator: self.denominator,
-            fraction: q.remainder,
-            ordinal: self.ordinal + edges,
+        if edges < 0x1_0000_0000 {
+            return self.move_few(rate, edges);
         }
+        self.move_many(rate, edges)
     }
 
     // The clock moved forward by edges. One whose last edge would be out of range is refused as

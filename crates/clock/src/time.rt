@@ -4,7 +4,6 @@ ghost use lib.Dec.{leb, ltb, eqb};
 ghost use Rattle.clock.specs.Time.{raw, timeOf, zero, durationOf, microsRaw, inRange, sum};
 ghost use Rattle.clock.specs.Wide.{wideOf};
 use crate::wide::Wide;
-use crate::wide::div;
 
 // A moment: seconds since power-on and 2^64ths of a second.
 pub struct Time {
@@ -26,12 +25,21 @@ pub enum Sum {
 
 const MICROS: u64 = 1_000_000;
 
+// The whole fraction units of a microsecond, of which a second has 2^64.
+const WHOLE: u64 = 18_446_744_073_709;
+
+// And the millionths of a unit above them.
+const PARTS: u64 = 551_616;
+
 // us microseconds as seconds and fraction, rounded down.
 fn micros_raw(us: u64) -> Wide
     ensures { λ r. ⌜ r ≡ wideOf (microsRaw us) ⌝ }
 {
-    let q = div(Wide { high: us, low: 0 }, MICROS);
-    q.quotient
+    let rest = us % MICROS;
+    Wide {
+        high: us / MICROS,
+        low: rest * WHOLE + rest * PARTS / MICROS,
+    }
 }
 
 impl Time {

@@ -1,7 +1,7 @@
-// Numbers of 128 bits as two words, and the two operations that the clock needs on them, each by
-// halves of 32 bits: a product with a short number, and a quotient by one.
+// Numbers of 128 bits as two words, and the operations that the clock needs on them: a product with
+// a short number and a quotient by one, each by halves of 32 bits, a difference and a sum.
 ghost use mathlib.Core.Path.{_≡_};
-ghost use Prim.Native.Nat.{_+_, _-_, _*_, _/_, _^_, _<_, _≤_};
+ghost use Prim.Native.Nat.{_+_, _-_, _*_, _^_, _<_, _≤_};
 ghost use Rattle.clock.specs.Wide.{value, wideOf, quotientOf};
 
 // high × 2^64 + low.
@@ -21,8 +21,8 @@ const HALF: u64 = 0x1_0000_0000;
 // w × m + c, where the high word has room for it.
 pub(crate) fn mul_add(w: Wide, m: u64, c: u64) -> Wide
     requires { ⌜ w .high < 2 ^ 32 ⌝ }
-    requires { ⌜ m < 2 ^ 20 ⌝ }
-    requires { ⌜ c < 2 ^ 20 ⌝ }
+    requires { ⌜ m < 2 ^ 32 ⌝ }
+    requires { ⌜ c < 2 ^ 32 ⌝ }
     ensures { λ r. ⌜ r ≡ wideOf (value w * m + c) ⌝ }
 {
     let t = w.low % HALF * m + c;
@@ -50,14 +50,36 @@ pub(crate) fn div(w: Wide, d: u64) -> Quotient
     }
 }
 
-// The high word of a - b.
-pub(crate) fn high_of_difference(a: Wide, b: Wide) -> u64
+// a - b.
+pub(crate) fn difference(a: Wide, b: Wide) -> Wide
     requires { ⌜ value b ≤ value a ⌝ }
-    ensures { λ r. ⌜ r ≡ (value a - value b) / 2 ^ 64 ⌝ }
+    ensures { λ r. ⌜ r ≡ wideOf (value a - value b) ⌝ }
 {
     if a.low < b.low {
-        a.high - b.high - 1
-    } else {
-        a.high - b.high
+        return Wide {
+            high: a.high - b.high - 1,
+            low: u64::MAX - b.low + a.low + 1,
+        };
+    }
+    Wide {
+        high: a.high - b.high,
+        low: a.low - b.low,
+    }
+}
+
+// a + b, where the high word has room for it.
+pub(crate) fn sum(a: Wide, b: Wide) -> Wide
+    requires { ⌜ a .high + b .high < 2 ^ 63 ⌝ }
+    ensures { λ r. ⌜ r ≡ wideOf (value a + value b) ⌝ }
+{
+    if a.low <= u64::MAX - b.low {
+        return Wide {
+            high: a.high + b.high,
+            low: a.low + b.low,
+        };
+    }
+    Wide {
+        high: a.high + b.high + 1,
+        low: a.low - (u64::MAX - b.low) - 1,
     }
 }

@@ -23,7 +23,7 @@ use Rattle.scan.specs.declared.drive.LcdDrive.{LcdDrive}
 use Rattle.scan.specs.Check.{refused, answered, validSettings, checkMoment, checkLent, checkImage}
 use Rattle.scan.specs.Count.{countTo, pieces, answeredCount, countScan}
 use Rattle.scan.specs.Latch.{retained}
-use Rattle.scan.specs.Run.{stopped, updated, beforeByte, afterByte, fallScan}
+use Rattle.scan.specs.Run.{stopped, resumed, updated, beforeByte, afterByte, fallScan, riseScan}
 use Rattle.scan.specs.Drive.{driveAt, frameAt, off, answeredDrive, driveScan}
 use Rattle.scan.specs.Image.{image, rendered}
 use Rattle.scan.proofs.Checks.{Valid, ValidSettings}
@@ -60,6 +60,10 @@ module _ (x : Scan) (s : Settings) (now : Time) where
   pub fall-passed : (r : Changed) → answered r ≡ fallScan x s now → checkMoment x (validSettings s) now ≡ none → r ≡ record { check = Check.Passed; scan = stopped (countTo x s now) }
   unfolding fallScan
   fall-passed r e h = changed-is r (stopped (countTo x s now)) x e h
+
+  pub rise-passed : (runs : Bool) (r : Changed) → answered r ≡ riseScan x s now runs → checkMoment x (validSettings s) now ≡ none → r ≡ record { check = Check.Passed; scan = resumed x s now runs }
+  unfolding riseScan
+  rise-passed runs r e h = changed-is r (resumed x s now runs) x e h
 
   module _ (ram icons : List ℕ) where
     pub before-passed : (page : DataPage) (r : Changed) → answered r ≡ beforeByte x s now page ram icons → checkLent x (validSettings s) now ram icons ≡ none → r ≡ record { check = Check.Passed; scan = retained (countTo x s now) s page ram icons }

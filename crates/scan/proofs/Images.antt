@@ -12,13 +12,13 @@ use lib.ListN.{length, getD, take, drop}
 use lib.Seq.{getD-take, getD-drop}
 use Rattle.checks.specs.Checks.{unlessRefused}
 use Rattle.scan.specs.Check.{checkImage}
-use Rattle.scan.specs.Closed.{levelsOf}
+use Rattle.scan.specs.Closed.{rowBits, shownShade, levelsOf, rowLevel}
 use Rattle.scan.specs.Image.{upTo, rowsUpTo, litBy, cycleOf, widths, levelOf, glassCommon, lineOf, ramRowOf, pageLevel, ramLevel, pixel, imageRow, image, rendered}
 use Rattle.scan.specs.Settings.{pwmWidths, pwmOf, frcCountOf}
-use Rattle.scan.specs.Shade.{shadeOf, pulseWidth}
+use Rattle.scan.specs.Shade.{columnOf, planes, shadeOf, pulseWidth}
 use Rattle.scan.proofs.Checks.{painted-checks}
 use Rattle.scan.proofs.Rows.{length-upTo, getD-upTo, length-rows, row-of-rows}
-use Rattle.scan.proofs.Shades.{shade-lt, pulse-le}
+use Rattle.scan.proofs.Shades.{planes-in, pulse-le}
 use Rattle.scan.specs.declared.settings.Settings.{Settings}
 
 -- what the gray mode gives
@@ -67,7 +67,7 @@ module _ (s : Settings) where
       let sum = widths s shade (frcCountOf (s .«gray_mode»)) in
       div-lt-iff-lt-mul {x = 255 * sum + cycleOf s / 2} {y = 256} cycle-pos .1 (omega (arith, cycle-pos, widths-le shade (frcCountOf (s .«gray_mode»))))
 
-  level-at : (shade : ℕ) → shade < 4 → getD (levelsOf s) shade 0 ≡ levelOf s shade
+  level-at : (n : ℕ) → n < 4 → getD (levelsOf s) n 0 ≡ levelOf s (shownShade s n)
   unfolding levelsOf
   level-at zero l = refl
   level-at (suc zero) l = refl
@@ -75,9 +75,16 @@ module _ (s : Settings) where
   level-at (suc (suc (suc zero))) l = refl
   level-at (suc (suc (suc (suc k)))) l = absurd (omega arith)
 
-  pub level-read : (part : List ℕ) (bit x : ℕ) → getD (levelsOf s) (shadeOf s part bit x) 0 ≡ pageLevel s part bit x
-  unfolding pageLevel
-  level-read part bit x = level-at (shadeOf s part bit x) (shade-lt s part bit x)
+  -- a row's levels from its bits
+  level-read : (part : List ℕ) (place : ℕ) → length part ≡ 256 → (x : ℕ) → rowLevel (levelsOf s) (rowBits part place) (s .«segment_reverse») x ≡ pageLevel s part place x
+  unfolding pageLevel shadeOf
+  level-read part place whole x =
+      let column = columnOf (s .«segment_reverse») x in
+      ap (λ (n : ℕ). getD (levelsOf s) n 0) (planes-in part place whole column) ∙ level-at (planes part place column) (omega arith)
+
+  pub page-painted : (part : List ℕ) (place : ℕ) → length part ≡ 256 → {levels bits : List ℕ} → levels ≡ levelsOf s → bits ≡ rowBits part place → upTo (rowLevel levels bits (s .«segment_reverse»)) 96 ≡ upTo (pageLevel s part place) 96
+  page-painted part place whole e b =
+      (λ i. upTo (rowLevel (e i) (b i) (s .«segment_reverse»)) 96) ∙ (λ i. upTo (λ (x : ℕ). level-read part place whole x i) 96)
 
 pub glass-common-le : (reversed : Bool) (y : ℕ) → y < 64 → glassCommon reversed y ≤ 95
 glass-common-le true y l = omega arith

@@ -9,33 +9,36 @@ use native.Mathlib.Omega.{arith}
 use native.Mathlib.Numerals.{one-add}
 use native.Mathlib.Nat.{pow-suc, add-zero, lt-of-lt-of-le}
 use lib.Dec.{ltb, eqb}
-use lib.ListN.{getD, set, take, drop}
+use lib.ListN.{length, getD, set, take, drop, length-drop}
 use lib.Pow.{pow-mono, shr-shr}
-use lib.Seq.{drop-set-lt, drop-set-add, take-set-le}
+use lib.Seq.{length-take-le, drop-set-lt, drop-set-add, take-set-le}
 use borrow.Author.Tests.{ne-eqb, ltb-true, ltb-false, eqb-true, eqb-false}
 use Rattle.checks.proofs.Tests.{either}
 use Rattle.scan.specs.declared.settings.Settings.{Settings}
 use Rattle.scan.specs.declared.state.Scan.{Scan}
 use Rattle.scan.specs.declared.latch.DataPage.{DataPage}
 use Rattle.scan.specs.Check.{frcCountOk, validScan, checkScan}
-use Rattle.scan.specs.Closed.{activeShades, rowActive}
+use Rattle.scan.specs.Closed.{rowBits, shownShade, activeShades, rowActive, rowWords}
 use Rattle.scan.specs.Latch.{latchedRow, shadeActive, segmentActive, bit, word, words, presentLatch, shown, affects, keptLatch, retained}
 use Rattle.scan.specs.Quantum.{quantum}
-use Rattle.scan.specs.Shade.{shadeOf, pageOf, shadeAt, pulseWidth}
+use Rattle.scan.specs.Shade.{columnOf, planes, shadeOf, pageOf, shadeAt, pulseWidth}
 use Rattle.scan.specs.State.{withLatch}
 use Rattle.scan.proofs.Checks.{valid-scan}
-use Rattle.scan.proofs.Shades.{shade-lt}
+use Rattle.scan.proofs.Shades.{planes-in}
 
--- the activity of the four shades, for every segment of a row
-active-at : (x : Scan) (s : Settings) (shade : ℕ) → shade < 4 → getD (activeShades x s) shade false ≡ shadeActive x s shade
+-- the activity of what two planes show, and so of a row's segments from its bits
+active-at : (x : Scan) (s : Settings) (n : ℕ) → n < 4 → getD (activeShades x s) n false ≡ shadeActive x s (shownShade s n)
 active-at x s zero h = refl
 active-at x s (suc zero) h = refl
 active-at x s (suc (suc zero)) h = refl
 active-at x s (suc (suc (suc zero))) h = refl
 active-at x s (suc (suc (suc (suc n)))) h = absurd (omega arith)
 
-pub active-row : (x : Scan) (s : Settings) (part : List ℕ) (place : ℕ) → words (rowActive (activeShades x s) s part place) ≡ words (λ (k : ℕ). shadeActive x s (shadeOf s part place k))
-active-row x s part place = λ i. words (λ (k : ℕ). active-at x s (shadeOf s part place k) (shade-lt s part place k) i)
+active-read : (x : Scan) (s : Settings) (part : List ℕ) (place : ℕ) → length part ≡ 256 → (k : ℕ) → rowActive (activeShades x s) (rowBits part place) (s .«segment_reverse») k ≡ shadeActive x s (shadeOf s part place k)
+unfolding shadeOf
+active-read x s part place whole k =
+    let column = columnOf (s .«segment_reverse») k in
+    ap (λ (n : ℕ). getD (activeShades x s) n false) (planes-in part place whole column) ∙ active-at x s (planes part place column) (omega arith)
 
 bit-le : (on : Bool) → bit on ≤ 1
 bit-le true = omega arith
@@ -122,6 +125,28 @@ cond-le false p q = q
 pub row-le : (x : Scan) → latchedRow x ≤ 128
 unfolding latchedRow
 row-le x = cond-le (eqb (x .row) (x .frame .duty)) (omega arith) (omega arith)
+
+module _ (x : Scan) (s : Settings) (ram icons : List ℕ) (whole : length ram ≡ 4096) (icons-whole : length icons ≡ 256) where
+  from-bits : rowWords (latchedRow x) (activeShades x s) (s .«segment_reverse») ram icons ≡ presentLatch x s ram icons
+  from-bits = go (eqb (latchedRow x) 128) refl
+    where
+      go : (t : Bool) → eqb (latchedRow x) 128 ≡ t
+          → cond t (words (rowActive (activeShades x s) (rowBits icons 0) (s .«segment_reverse»)))
+          (words (rowActive (activeShades x s) (rowBits (pageOf ram (latchedRow x / 8)) (latchedRow x % 8)) (s .«segment_reverse»)))
+          ≡ presentLatch x s ram icons
+      go true h =
+          (λ i. words (λ (k : ℕ). active-read x s icons 0 icons-whole k i))
+          ∙ latch-of-icons x s ram icons (eqb-true (latchedRow x) 128 h)
+      go false h =
+          let other = eqb-false (latchedRow x) 128 h in
+          let fits : latchedRow x / 8 * 256 + 256 ≤ length ram = omega (arith, row-le x, other, whole) in
+          let page : length (pageOf ram (latchedRow x / 8)) ≡ 256 = length-take-le 256 (drop (latchedRow x / 8 * 256) ram) (rw length-drop (omega arith)) in
+          (λ i. words (λ (k : ℕ). active-read x s (pageOf ram (latchedRow x / 8)) (latchedRow x % 8) page k i))
+          ∙ latch-of-ram x s ram icons (latchedRow x) 256 refl other refl
+
+  -- the latch as the code makes it: from a row's bits, and from the activity of what two of them show
+  pub latch-by : {row : ℕ} {active : List Bool} → row ≡ latchedRow x → active ≡ activeShades x s → rowWords row active (s .«segment_reverse») ram icons ≡ presentLatch x s ram icons
+  latch-by e d = (λ i. rowWords (e i) (d i) (s .«segment_reverse») ram icons) ∙ from-bits
 
 -- what the latch reads of a scan
 pub record Alike (x y : Scan) : Type 0 where

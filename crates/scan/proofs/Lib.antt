@@ -7,6 +7,7 @@ mod Rows
 pub mod Checks
 pub mod Kept
 pub mod Counting
+mod Due
 pub mod Shades
 pub mod Latches
 pub mod Images

@@ -29,7 +29,7 @@ use Rattle.scan.specs.Check.{linesOk, validSettings, validRunning, check
 use Rattle.scan.specs.Quantum.{rowEnds, countOn, inversionAfter, frameAfter, ticked, tickedTo, quantum}
 use Rattle.scan.specs.Count.{dueAt, due, countFor, countTo}
 use Rattle.scan.specs.Latch.{latchedRow, shown, affects, keptLatch, retained}
-use Rattle.scan.specs.Run.{runningAfter, noLines, cleared, taken, begun, stopped, startedIf, clocked, updated}
+use Rattle.scan.specs.Run.{runningAfter, noLines, cleared, taken, begun, stopped, startedIf, clocked, resumed, updated}
 use Rattle.scan.proofs.Checks.{Valid, InversionFits, ValidSettings, valid-scan, valid-check, valid-settings}
 use Rattle.scan.proofs.Kept.{pwm-pos, pwm-of-ok, frc-count-pos, frc-count-of-ok, frc-count-taken, rows-low, frame-of-fits, rate-lcd}
 use Rattle.scan.proofs.Counting.{count-none}
@@ -113,11 +113,16 @@ module _ (x : Scan) (s : Settings) where
   pub begun-passes : (ram icons : List ℕ) → validSettings s ≡ true → {y : Scan} → y ≡ begun s ram icons → checkScan y ≡ none
   begun-passes ram icons vs e = rw e (valid-check (begun s ram icons) (begun-valid s ram icons (valid-settings s vs)))
 
+pub resumed-valid : (x : Scan) (s : Settings) (now : Time) (runs : Bool) → Valid x → ValidSettings s → inRange now ≡ true → Valid (resumed x s now runs)
+unfolding resumed
+resumed-valid x s now true v vs i = clocked-valid (cleared x s) s now (cleared-valid x s v) vs i
+resumed-valid x s now false v vs i = stopped-valid (cleared x s) (cleared-valid x s v)
+
 pub updated-valid : (x : Scan) (s : Settings) (now : Time) (running : Running) (ram icons : List ℕ) → Valid x → ValidSettings s → inRange now ≡ true → Valid (updated x s now running ram icons)
 unfolding updated
 updated-valid x s now Running.Begins ram icons v vs i = clocked-valid (begun s ram icons) s now (begun-valid s ram icons vs) vs i
-updated-valid x s now Running.Continues ram icons v vs i = clocked-valid (cleared x s) s now (cleared-valid x s v) vs i
-updated-valid x s now Running.Stands ram icons v vs i = stopped-valid (cleared x s) (cleared-valid x s v)
+updated-valid x s now Running.Continues ram icons v vs i = resumed-valid x s now true v vs i
+updated-valid x s now Running.Stands ram icons v vs i = resumed-valid x s now false v vs i
 
 -- ---- clock and line inversion have no part in what is shown
 module _ (x : Scan) (s : Settings) (ram icons : List ℕ) where
@@ -145,11 +150,11 @@ module _ (x : Scan) (s : Settings) (ram icons : List ℕ) where
 -- a byte that does not make the scan run changes nothing that is shown
 module _ (x : Scan) (s : Settings) (now : Time) (ram icons : List ℕ) where
   pub continues-shown : shown (updated x s now Running.Continues ram icons) s ram icons ≡ shown x s ram icons
-  unfolding updated
+  unfolding updated resumed
   continues-shown = clocked-shown (cleared x s) s ram icons now ∙ cleared-shown x s ram icons
 
   pub stands-shown : shown (updated x s now Running.Stands ram icons) s ram icons ≡ shown x s ram icons
-  unfolding updated
+  unfolding updated resumed
   stands-shown = stopped-shown (cleared x s) s ram icons ∙ cleared-shown x s ram icons
 
 -- a scan that is stopped is not counted on
@@ -207,7 +212,7 @@ module _ (x : Scan) (s : Settings) where
 
   -- then a byte that leaves the scan running, or not running, changes nothing
   pub updated-same : (now : Time) (runs : Bool) (ram icons : List ℕ) → Quiet x s runs → updated x s now (runningAfter runs runs) ram icons ≡ x
-  unfolding updated
+  unfolding updated resumed
   updated-same now true ram icons q = rw (cleared-same q) (clocked-same now (q .clock))
   updated-same now false ram icons q = rw (cleared-same q) (stopped-same (q .clock))
 
@@ -246,7 +251,7 @@ module _ (x : Scan) (s : Settings) (now : Time) (ram icons : List ℕ) where
   cleared-zero e = (ap (λ (i : Inversion). i .lines) (cleared-lines x s e), ap (λ (i : Inversion). i .count) (cleared-lines x s e))
 
   pub updated-quiet : (was runs : Bool) → Quiet (updated x s now (runningAfter was runs) ram icons) s runs
-  unfolding updated begun keptLatch withLatch taken stopped withTicking hasClock
+  unfolding updated resumed begun keptLatch withLatch taken stopped withTicking hasClock
   updated-quiet true true = quiet-from (cleared x s) (λ e. cleared-zero e .0) (λ e. cleared-zero e .1)
   updated-quiet false true = quiet-from (begun s ram icons) (λ e. e) (λ e. refl)
   updated-quiet was false = record { clock = refl; lines = λ e. cleared-zero e .0; count = λ e. cleared-zero e .1 }

@@ -1,27 +1,37 @@
--- Shades and pulse widths: their bounds, and that a width beyond PWM gives no pulse.
-use Prim.Native.Nat.{ℕ, _-_, _≤_, _<_}
+-- A row's bits, the bound of a pulse width, and that a width beyond PWM gives no pulse.
+use Prim.Native.Nat.{ℕ, _+_, _*_, _≤_, _<_}
 use mathlib.Core.Bool.{Bool, true, false, cond}
 use mathlib.Core.List.{List}
-use mathlib.Core.Path.{_≡_, refl}
+use mathlib.Core.Path.{_≡_, refl, sym, _∙_}
 use native.Mathlib.Omega.{arith}
-use lib.Dec.{leb}
-use borrow.Author.Tests.{leb-true, lt-leb}
+use native.Mathlib.Nat.{zero-div}
+use lib.Dec.{leb, ltb}
+use lib.ListN.{length, getD, List·getD-eq-default}
+use borrow.Author.Tests.{leb-true, lt-leb, ltb-true, ltb-false}
 use Rattle.scan.specs.declared.settings.Settings.{Settings}
-use Rattle.scan.specs.Shade.{columnOf, planes, shadeOf, paletteWidth, pulseWidth}
+use Rattle.scan.specs.Closed.{rowBits, AreBits, planesIn}
+use Rattle.scan.specs.Image.{upTo}
+use Rattle.scan.specs.Shade.{bitOf, planes, paletteWidth, pulseWidth}
+use Rattle.scan.proofs.Rows.{length-upTo, getD-upTo}
 
-pub column-lt : (reversed : Bool) (segment : ℕ) → segment < 128 → columnOf reversed segment < 128
-column-lt true segment h = omega arith
-column-lt false segment h = h
+-- a row's bits, of 256 bytes
+module _ (part : List ℕ) (place : ℕ) (whole : length part ≡ 256) where
+  bit-at : (k : ℕ) → getD (rowBits part place) k 0 ≡ bitOf (getD part k 0) place
+  unfolding rowBits
+  bit-at k = go (ltb k 256) refl
+    where
+      go : (t : Bool) → ltb k 256 ≡ t → getD (upTo (λ (i : ℕ). bitOf (getD part i 0) place) 256) k 0 ≡ bitOf (getD part k 0) place
+      go true h = getD-upTo (λ (i : ℕ). bitOf (getD part i 0) place) 256 k (ltb-true k 256 h)
+      go false h =
+          let l = ltb-false k 256 h in
+          List·getD-eq-default (upTo (λ (i : ℕ). bitOf (getD part i 0) place) 256) 0 {n = k} (omega (arith, length-upTo (λ (i : ℕ). bitOf (getD part i 0) place) 256))
+          ∙ sym (rw (List·getD-eq-default part 0 {n = k} (omega arith), zero-div))
 
--- there are four shades
-pub shade-lt : (s : Settings) (part : List ℕ) (bit segment : ℕ) → shadeOf s part bit segment < 4
-unfolding shadeOf
-shade-lt s part bit segment = go (s .«entire_on») (s .reverse) (planes part bit (columnOf (s .«segment_reverse») segment)) (omega arith)
-  where
-    go : (on reversed : Bool) (n : ℕ) → n < 4 → cond on 3 (cond reversed (3 - n) n) < 4
-    go true reversed n h = omega arith
-    go false true n h = omega arith
-    go false false n h = h
+  pub are-bits : AreBits (rowBits part place)
+  are-bits k = rw bit-at (omega arith)
+
+  pub planes-in : (column : ℕ) → planesIn (rowBits part place) column ≡ planes part place column
+  planes-in column = λ i. 2 * bit-at (2 * column) i + bit-at (2 * column + 1) i
 
 -- a pulse is no wider than the PWM
 pub pulse-le : (s : Settings) (shade phase pwm : ℕ) → pulseWidth s shade phase pwm ≤ pwm

@@ -1,7 +1,7 @@
 -- What the contracts of private functions cite: n quanta at once by division and remainder (src/closed.rt), a piece as
--- src/count.rt answers it, the activity of the four shades, the levels of the four shades. Nothing here is a rule; the laws
--- show that it comes to what the rules say.
-use Prim.Native.Nat.{ℕ, zero, suc, _+_, _/_, _%_}
+-- src/count.rt answers it, and a row's bits with the activity and the level of what two of them show. Nothing here is a rule; the
+-- laws show that it comes to what the rules say.
+use Prim.Native.Nat.{ℕ, zero, suc, _+_, _-_, _*_, _/_, _%_, _<_}
 use mathlib.Core.Bool.{Bool, true, false, cond, not}
 use mathlib.Core.List.{List, [], _∷_}
 use lib.Dec.{ltb, eqb}
@@ -20,9 +20,9 @@ use Rattle.scan.specs.Settings.{pwmOf, frcCountOf, frameOf}
 use Rattle.scan.specs.State.{rows}
 use Rattle.scan.specs.Quantum.{quantum}
 use Rattle.scan.specs.Count.{due, limitWith, piece}
-use Rattle.scan.specs.Shade.{shadeOf}
-use Rattle.scan.specs.Latch.{shadeActive}
-use Rattle.scan.specs.Image.{levelOf}
+use Rattle.scan.specs.Shade.{columnOf, bitOf, pageOf}
+use Rattle.scan.specs.Latch.{shadeActive, words}
+use Rattle.scan.specs.Image.{upTo, levelOf}
 
 -- n quanta, one after another
 unfoldable pub quanta : ℕ → Scan → Settings → Scan
@@ -151,17 +151,43 @@ endsWithin x s now = endsAt (x .ticking .clock) (x .ticking .rate) (limitIn x s)
 unfoldable pub pieceOf : Scan → Settings → Time → Piece
 pieceOf x s now = record { counted = due x now; last = endsWithin x s now; scan = piece x s now }
 
--- the activity of the four shades, from 0 on
+-- a row's bit of each of its 256 bytes
+unfoldable pub rowBits : (part : List ℕ) → (place : ℕ) → List ℕ
+rowBits part place = upTo (λ (k : ℕ). bitOf (getD part k 0) place) 256
+
+abbrev pub AreBits : List ℕ → Type 0
+AreBits bits = (k : ℕ) → getD bits k 0 < 2
+
+-- the two planes of a column, from the row's bits
+abbrev pub planesIn : (bits : List ℕ) → (column : ℕ) → ℕ
+planesIn bits column = 2 * getD bits (2 * column) 0 + getD bits (2 * column + 1) 0
+
+-- the shade that two planes show
+abbrev pub shownShade : Settings → (planes : ℕ) → ℕ
+shownShade s n = cond (s .«entire_on») 3 (cond (s .reverse) (3 - n) n)
+
+-- the activity of what the planes 0 to 3 show
 abbrev pub activeShades : Scan → Settings → List Bool
-activeShades x s = shadeActive x s 0 ∷ shadeActive x s 1 ∷ shadeActive x s 2 ∷ shadeActive x s 3 ∷ []
+activeShades x s =
+    shadeActive x s (shownShade s 0) ∷ shadeActive x s (shownShade s 1) ∷ shadeActive x s (shownShade s 2) ∷ shadeActive x s (shownShade s 3) ∷ []
 
--- the activity of a row's segments from that of the shades, the row standing at `place` in the 256 bytes of `part`
-abbrev pub rowActive : List Bool → Settings → (part : List ℕ) → (place : ℕ) → (segment : ℕ) → Bool
-rowActive active s part place segment = getD active (shadeOf s part place segment) false
+-- the activity of a row's segments, from its bits and from that of the planes
+abbrev pub rowActive : (active : List Bool) → (bits : List ℕ) → (reversed : Bool) → (segment : ℕ) → Bool
+rowActive active bits reversed segment = getD active (planesIn bits (columnOf reversed segment)) false
 
--- the levels of the four shades in the image
+-- the latch of a row of RAM, or of the icons, row 128
+abbrev pub rowWords : (row : ℕ) → (active : List Bool) → (reversed : Bool) → (ram icons : List ℕ) → List ℕ
+rowWords row active reversed ram icons =
+    cond (eqb row 128) (words (rowActive active (rowBits icons 0) reversed))
+    (words (rowActive active (rowBits (pageOf ram (row / 8)) (row % 8)) reversed))
+
+-- the levels in the image of what the planes 0 to 3 show
 unfoldable pub levelsOf : Settings → List ℕ
-levelsOf s = levelOf s 0 ∷ levelOf s 1 ∷ levelOf s 2 ∷ levelOf s 3 ∷ []
+levelsOf s = levelOf s (shownShade s 0) ∷ levelOf s (shownShade s 1) ∷ levelOf s (shownShade s 2) ∷ levelOf s (shownShade s 3) ∷ []
+
+-- the levels of a row's segments, from its bits and from those of the planes
+abbrev pub rowLevel : (levels bits : List ℕ) → (reversed : Bool) → (segment : ℕ) → ℕ
+rowLevel levels bits reversed segment = getD levels (planesIn bits (columnOf reversed segment)) 0
 
 -- a pixel that shows nothing
 abbrev pub dark : (x : ℕ) → ℕ

@@ -1,6 +1,7 @@
 -- Document 01, 'Scan': what a byte, a warm rise or a fall does to the scan. A byte makes two calls: before it acts the scan is
 -- counted and its latch kept where the byte could alter it; after it the inversion is cleared, the scan begun, its clock
--- started or dropped. A warm rise makes the second of them, a fall counts and drops the clock.
+-- started or dropped. A warm rise does the same but begins no scan, so that it reads no memory. A fall counts and drops the
+-- clock.
 use Prim.Native.Nat.{ℕ, _%_}
 use mathlib.Core.Bool.{Bool, true, false, cond}
 use mathlib.Core.List.{List, [], _∷_}
@@ -65,11 +66,15 @@ startedIf ScanClock.Stopped x s now =
 unfoldable pub clocked : Scan → Settings → Time → Scan
 clocked x s now = cond (eqb (s .«oscillator_control» % 2) 0) (startedIf (x .ticking .clock) x s now) (stopped x)
 
--- the scan after a byte or a warm rise
+-- a scan that ran before: it goes on, or does not run any more
+unfoldable pub resumed : Scan → Settings → Time → (runs : Bool) → Scan
+resumed x s now runs = cond runs (clocked (cleared x s) s now) (stopped (cleared x s))
+
+-- the scan after a byte
 unfoldable pub updated : Scan → Settings → Time → Running → (ram icons : List ℕ) → Scan
 updated x s now Running.Begins ram icons = clocked (begun s ram icons) s now
-updated x s now Running.Continues ram icons = clocked (cleared x s) s now
-updated x s now Running.Stands ram icons = stopped (cleared x s)
+updated x s now Running.Continues ram icons = resumed x s now true
+updated x s now Running.Stands ram icons = resumed x s now false
 
 -- the calls; a refusal gives back the scan given
 unfoldable pub beforeByte : Scan → Settings → Time → DataPage → (ram icons : List ℕ) → Option ℕ × Scan
@@ -82,3 +87,6 @@ afterByte x s now running ram icons =
 
 unfoldable pub fallScan : Scan → Settings → Time → Option ℕ × Scan
 fallScan x s now = changed (checkMoment x (validSettings s) now) (stopped (countTo x s now)) x
+
+unfoldable pub riseScan : Scan → Settings → Time → (runs : Bool) → Option ℕ × Scan
+riseScan x s now runs = changed (checkMoment x (validSettings s) now) (resumed x s now runs) x

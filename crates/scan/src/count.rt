@@ -2,13 +2,15 @@
 ghost use mathlib.Core.Path.{_≡_};
 ghost use mathlib.Core.Bool.{true, false, cond};
 ghost use mathlib.Core.Option.{none};
-ghost use Prim.Native.Nat.{_+_, _-_, _*_, _≤_};
-ghost use Rattle.clock.specs.Time.{inRange};
+ghost use Prim.Native.Nat.{_+_, _-_, _*_, _^_, _≤_, _<_};
+ghost use lib.Dec.{leb};
+ghost use Rattle.clock.specs.Time.{raw, inRange};
 ghost use Rattle.clock.specs.Rate.{sameRate, isLcd};
-ghost use Rattle.clock.specs.Edges.{started};
+ghost use Rattle.clock.specs.Edges.{started, movedBy};
+ghost use Rattle.clock.specs.Check.{validClock};
 ghost use Rattle.scan.specs.State.{rows};
 ghost use Rattle.scan.specs.Check.{validSettings, checkScan};
-ghost use Rattle.scan.specs.Count.{rowSame, sameFrame, frameSame, rateSame, countTo, pieces, answeredCount, countScan};
+ghost use Rattle.scan.specs.Count.{rowSame, sameFrame, frameSame, rateSame, due, countTo, pieces, answeredCount, countScan};
 ghost use Rattle.scan.specs.Closed.{limitIn, pieceOf};
 use crate::check::Check;
 use crate::check::check_moment;
@@ -192,6 +194,65 @@ fn done(last: Piece, before: u8) -> Counted
     }
 }
 
+// Whole units up to the next edge: one more where the fractions come to a unit.
+fn next_span(whole: u64, remainder: u64, fraction: u64, numerator: u64) -> u64
+    requires { ⌜ whole < 2 ^ 63 ⌝ }
+    requires { ⌜ remainder < numerator ⌝ }
+    requires { ⌜ fraction < numerator ⌝ }
+    requires { ⌜ numerator < 2 ^ 20 ⌝ }
+    ensures { λ r. ⌜ r ≡ whole + cond (leb numerator (fraction + remainder)) 1 0 ⌝ }
+{
+    if numerator <= fraction + remainder {
+        whole + 1
+    } else {
+        whole
+    }
+}
+
+// A time later by less than a second.
+fn later(seconds: u64, fraction: u64, span: u64) -> Time
+    requires { ⌜ seconds < 2 ^ 32 ⌝ }
+    ensures { λ r. ⌜ raw r ≡ seconds * 2 ^ 64 + fraction + span ⌝ }
+{
+    let low = std::num::wrapping_add_u64(fraction, span);
+    if low < span {
+        return Time {
+            seconds: seconds + 1,
+            fraction: low,
+        };
+    }
+    Time {
+        seconds: seconds,
+        fraction: low,
+    }
+}
+
+// Whether the next edge is not later than now: one comparison, where a count divides.
+fn edge_due(clock: Clock, rate: Rate, now: Time) -> bool
+    requires { ⌜ isLcd rate ≡ true ⌝ }
+    requires { ⌜ validClock clock rate ≡ true ⌝ }
+    ensures { λ r. ⌜ r ≡ leb (raw (movedBy clock rate 1 .at)) (raw now) ⌝ }
+{
+    let at = clock.at;
+    let whole = clock.whole;
+    let span = next_span(whole.low, clock.remainder, clock.fraction, rate.numerator);
+    let next = later(at.seconds, at.fraction, span);
+    next.le(now)
+}
+
+fn is_due(scan: Scan, now: Time) -> bool
+    requires { ⌜ checkScan scan ≡ none ⌝ }
+    ensures { λ r. ⌜ r ≡ due scan now ⌝ }
+{
+    let ticking = scan.ticking;
+    let clock = ticking.clock;
+    let ScanClock::Running(running) = clock else {
+        return false;
+    };
+    let rate = ticking.rate;
+    edge_due(running, rate, now)
+}
+
 // The scan counted by at most four uses of the piece rule.
 pub(crate) fn in_pieces(scan: Scan, settings: Settings, now: Time) -> Counted
     requires { ⌜ inRange now ≡ true ⌝ }
@@ -209,6 +270,20 @@ pub(crate) fn in_pieces(scan: Scan, settings: Settings, now: Time) -> Counted
         from = piece.scan;
         before += 1;
     }
+}
+
+// The scan counted to now. Most drives find no edge due.
+pub(crate) fn latest(scan: Scan, settings: Settings, now: Time) -> Scan
+    requires { ⌜ inRange now ≡ true ⌝ }
+    requires { ⌜ validSettings settings ≡ true ⌝ }
+    requires { ⌜ checkScan scan ≡ none ⌝ }
+    ensures { λ r. ⌜ r ≡ countTo scan settings now ⌝ }
+{
+    if !is_due(scan, now) {
+        return scan;
+    }
+    let counted = in_pieces(scan, settings, now);
+    counted.scan
 }
 
 impl Scan {

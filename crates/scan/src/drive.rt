@@ -12,7 +12,7 @@ ghost use Rattle.scan.specs.Check.{validSettings, checkScan};
 ghost use Rattle.scan.specs.Drive.{runs as runsBy, driven as drivenBy, grounded as groundedBy, commonOf, undriven as undrivenOf, driveOf, driveAt, quantaOf, frameAt, off, answeredDrive, driveScan, microvolts, levelMicrovolts, commonLevel, segmentLevel, activeIn, commonMicrovolts, segmentMicrovolts};
 use crate::check::Check;
 use crate::check::check_lent;
-use crate::count::in_pieces;
+use crate::count::latest;
 use crate::latch::shown;
 use crate::settings::Settings;
 use crate::state::Scan;
@@ -178,8 +178,7 @@ fn driven_at(
             frame: 0,
         };
     }
-    let counted = in_pieces(scan, settings, moment);
-    let latest = counted.scan;
+    let latest = latest(scan, settings, moment);
     Driven {
         check: Check::Passed,
         drive: drive_of(latest, settings, voltages, ram, icons),

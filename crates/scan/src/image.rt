@@ -7,14 +7,16 @@ ghost use lib.ListN.{length};
 ghost use Rattle.scan.specs.Settings.{frcCountOf};
 ghost use Rattle.scan.specs.Check.{refused, validSettings, checkImage};
 ghost use Rattle.scan.specs.Image.{litBy, cycleOf, widths, levelOf, glassCommon, lineOf, ramRowOf, pageLevel, upTo, imageRow, rowsUpTo, rendered};
-ghost use Rattle.scan.specs.Closed.{levelsOf, dark};
+ghost use Rattle.scan.specs.Closed.{AreBits, levelsOf, rowLevel, dark};
 use crate::check::Check;
 use crate::check::check_image;
 use crate::settings::Settings;
 use crate::settings::frc_count_of;
 use crate::settings::pwm_of;
+use crate::shade::bits_of;
+use crate::shade::planes;
 use crate::shade::pulse_width;
-use crate::shade::shade;
+use crate::shade::shown_shade;
 
 pub const LCD_WIDTH: usize = 96;
 
@@ -62,15 +64,15 @@ fn level_of(settings: Settings, shade: u8) -> u8
     ((255 * sum + cycle / 2) / cycle) as u8
 }
 
-// The levels of the four shades: worked out once for all pixels.
+// The levels of what the two bits of a segment show, by their number: worked out once for all pixels.
 fn levels_of(settings: Settings) -> [u8; 4]
     ensures { λ r. ⌜ r ≡ levelsOf settings ⌝ }
 {
     [
-        level_of(settings, 0),
-        level_of(settings, 1),
-        level_of(settings, 2),
-        level_of(settings, 3),
+        level_of(settings, shown_shade(settings, 0)),
+        level_of(settings, shown_shade(settings, 1)),
+        level_of(settings, shown_shade(settings, 2)),
+        level_of(settings, shown_shade(settings, 3)),
     ]
 }
 
@@ -118,6 +120,20 @@ fn clear_row(row: &mut [u8])
     }
 }
 
+// A row from its bits.
+fn paint_bits(bits: &[u8; 256], reversed: bool, levels: [u8; 4], row: &mut [u8])
+    requires { ⌜ AreBits (now bits) ⌝ }
+    requires { ⌜ length (now row) ≡ 96 ⌝ }
+    ensures { λ _. ⌜ now (row .exit) ≡ upTo (rowLevel levels (now (bits .entry)) reversed) 96 ⌝ }
+{
+    let mut x = 0;
+    while x < LCD_WIDTH {
+        let at = planes(bits, reversed, x);
+        row[x] = levels[at];
+        x += 1;
+    }
+}
+
 // The row that stands at `bit` of the 256 bytes of its page.
 fn paint_page(settings: Settings, levels: [u8; 4], page: &[u8], bit: u8, row: &mut [u8])
     requires { ⌜ levels ≡ levelsOf settings ⌝ }
@@ -126,12 +142,9 @@ fn paint_page(settings: Settings, levels: [u8; 4], page: &[u8], bit: u8, row: &m
     requires { ⌜ length (now row) ≡ 96 ⌝ }
     ensures { λ _. ⌜ now (row .exit) ≡ upTo (pageLevel settings (now (page .entry)) bit) 96 ⌝ }
 {
-    let mut x = 0;
-    while x < LCD_WIDTH {
-        let shade = shade(settings, page, bit, x as u8) as usize;
-        row[x] = levels[shade];
-        x += 1;
-    }
+    let mut bits = [0; 256];
+    bits_of(page, bit, &mut bits);
+    paint_bits(&bits, settings.segment_reverse, levels, row);
 }
 
 // One glass row.

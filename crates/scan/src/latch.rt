@@ -1,14 +1,15 @@
 // The output latch: which of the 128 segments are active in the present quantum, and when the latch
 // is kept because memory or settings are about to change. Document 01, 'Scan'.
 ghost use mathlib.Core.Path.{_≡_};
-ghost use Prim.Native.Nat.{ℕ, _+_, _*_, _^_, _<_, _≤_};
+ghost use Prim.Native.Nat.{_+_, _*_, _^_, _<_, _≤_};
 ghost use lib.ListN.{length};
-ghost use Rattle.scan.specs.Shade.{shadeOf};
 ghost use Rattle.scan.specs.Latch.{latchedRow, shadeActive, bit as bitOf, word as wordOf, words as wordsOf, presentLatch, shown as shownOf, affects, retained as retainedOf};
-ghost use Rattle.scan.specs.Closed.{activeShades, rowActive};
+ghost use Rattle.scan.specs.Closed.{rowBits, AreBits, activeShades, rowActive, rowWords};
 use crate::settings::Settings;
+use crate::shade::bits_of;
+use crate::shade::planes;
 use crate::shade::pulse_width;
-use crate::shade::shade;
+use crate::shade::shown_shade;
 use crate::state::Latch;
 use crate::state::Scan;
 
@@ -31,6 +32,18 @@ fn latched_row(scan: Scan) -> u8
     (frame.start_line % 128 + scan.row % 128) % 128
 }
 
+// The activity of what the two bits of a segment show, by their number: it holds for a whole row.
+fn active_shades(scan: Scan, settings: Settings) -> [bool; 4]
+    requires { ⌜ scan .frc < 4 ⌝ }
+    ensures { λ r. ⌜ r ≡ activeShades scan settings ⌝ }
+{
+    let first = shade_active(scan, settings, shown_shade(settings, 0));
+    let second = shade_active(scan, settings, shown_shade(settings, 1));
+    let third = shade_active(scan, settings, shown_shade(settings, 2));
+    let fourth = shade_active(scan, settings, shown_shade(settings, 3));
+    [first, second, third, fourth]
+}
+
 fn shade_active(scan: Scan, settings: Settings, shade: u8) -> bool
     requires { ⌜ shade < 4 ⌝ }
     requires { ⌜ scan .frc < 4 ⌝ }
@@ -39,64 +52,55 @@ fn shade_active(scan: Scan, settings: Settings, shade: u8) -> bool
     scan.step < pulse_width(settings, shade, scan.frc, scan.pwm)
 }
 
-// The activity of the four shades, which holds for a whole row.
-fn active_shades(scan: Scan, settings: Settings) -> [bool; 4]
-    requires { ⌜ scan .frc < 4 ⌝ }
-    ensures { λ r. ⌜ r ≡ activeShades scan settings ⌝ }
-{
-    let first = shade_active(scan, settings, 0);
-    let second = shade_active(scan, settings, 1);
-    let third = shade_active(scan, settings, 2);
-    let fourth = shade_active(scan, settings, 3);
-    [first, second, third, fourth]
-}
-
 // The word with one segment more below its others.
-fn pushed(
-    word: u64,
-    settings: Settings,
-    active: [bool; 4],
-    part: &[u8],
-    bit: u8,
-    segment: u8,
-) -> u64
+fn pushed(word: u64, active: bool) -> u64
     requires { ⌜ word < 2 ^ 63 ⌝ }
-    requires { ⌜ length (now part) ≡ 256 ⌝ }
-    requires { ⌜ bit < 8 ⌝ }
-    requires { ⌜ segment < 128 ⌝ }
-    ensures { λ r. ⌜ r ≡ bitOf (rowActive active settings (now (part .entry)) bit segment) + 2 * word ⌝ }
+    ensures { λ r. ⌜ r ≡ bitOf active + 2 * word ⌝ }
 {
-    let at = shade(settings, part, bit, segment) as usize;
-    if active[at] { word * 2 + 1 } else { word * 2 }
+    if active { word * 2 + 1 } else { word * 2 }
 }
 
 // 64 segments from `first` on, taken from the high one down so that no bit is shifted.
-fn word(settings: Settings, active: [bool; 4], part: &[u8], bit: u8, first: u8) -> u64
-    requires { ⌜ length (now part) ≡ 256 ⌝ }
-    requires { ⌜ bit < 8 ⌝ }
+fn word(bits: &[u8; 256], active: [bool; 4], reversed: bool, first: usize) -> u64
+    requires { ⌜ AreBits (now bits) ⌝ }
     requires { ⌜ first ≤ 64 ⌝ }
-    ensures { λ r. ⌜ r ≡ wordOf (rowActive active settings (now (part .entry)) bit) first 64 ⌝ }
+    ensures { λ r. ⌜ r ≡ wordOf (rowActive active (now (bits .entry)) reversed) first 64 ⌝ }
 {
     let mut word: u64 = 0;
-    let mut left: u8 = 64;
+    let mut left: usize = 64;
     while left > 0 {
         left -= 1;
-        word = pushed(word, settings, active, part, bit, first + left);
+        let at = planes(bits, reversed, first + left);
+        word = pushed(word, active[at]);
     }
     word
 }
 
-// The latch of a row: `part` is the 256 bytes that hold it, `bit` its place in them.
-fn words(scan: Scan, settings: Settings, part: &[u8], bit: u8) -> [u64; 2]
-    requires { ⌜ scan .frc < 4 ⌝ }
+// The latch of a row: `part` is the 256 bytes that hold it, `place` its place in them.
+fn words(part: &[u8], place: u8, active: [bool; 4], reversed: bool) -> [u64; 2]
     requires { ⌜ length (now part) ≡ 256 ⌝ }
-    requires { ⌜ bit < 8 ⌝ }
-    ensures { λ r. ⌜ r ≡ wordsOf (λ (k : ℕ). shadeActive scan settings (shadeOf settings (now (part .entry)) bit k)) ⌝ }
+    requires { ⌜ place < 8 ⌝ }
+    ensures { λ r. ⌜ r ≡ wordsOf (rowActive active (rowBits (now (part .entry)) place) reversed) ⌝ }
 {
-    let active = active_shades(scan, settings);
-    let low = word(settings, active, part, bit, 0);
-    let high = word(settings, active, part, bit, 64);
+    let mut bits = [0; 256];
+    bits_of(part, place, &mut bits);
+    let low = word(&bits, active, reversed, 0);
+    let high = word(&bits, active, reversed, 64);
     [low, high]
+}
+
+// The latch of a row of RAM, or of the icons.
+fn row_words(row: u8, active: [bool; 4], reversed: bool, ram: &[u8], icons: &[u8]) -> [u64; 2]
+    requires { ⌜ row ≤ 128 ⌝ }
+    requires { ⌜ length (now ram) ≡ 4096 ⌝ }
+    requires { ⌜ length (now icons) ≡ 256 ⌝ }
+    ensures { λ r. ⌜ r ≡ rowWords row active reversed (now (ram .entry)) (now (icons .entry)) ⌝ }
+{
+    if row == ICON_ROW {
+        return words(icons, 0, active, reversed);
+    }
+    let at = (row / 8) as usize * 256;
+    words(&ram[at..at + 256], row % 8, active, reversed)
 }
 
 // The latch of present memory and settings.
@@ -106,12 +110,14 @@ pub(crate) fn present_latch(scan: Scan, settings: Settings, ram: &[u8], icons: &
     requires { ⌜ length (now icons) ≡ 256 ⌝ }
     ensures { λ r. ⌜ r ≡ presentLatch scan settings (now (ram .entry)) (now (icons .entry)) ⌝ }
 {
-    let row = latched_row(scan);
-    if row == ICON_ROW {
-        return words(scan, settings, icons, 0);
-    }
-    let at = (row / 8) as usize * 256;
-    words(scan, settings, &ram[at..at + 256], row % 8)
+    let active = active_shades(scan, settings);
+    row_words(
+        latched_row(scan),
+        active,
+        settings.segment_reverse,
+        ram,
+        icons,
+    )
 }
 
 // What is shown: the latch that is kept, or else the present one.

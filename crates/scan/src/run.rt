@@ -6,7 +6,7 @@ ghost use mathlib.Core.Option.{none};
 ghost use lib.ListN.{length};
 ghost use Rattle.clock.specs.Time.{inRange};
 ghost use Rattle.scan.specs.Check.{answered, validSettings, checkScan};
-ghost use Rattle.scan.specs.Run.{runningAfter, cleared as clearedOf, taken as takenOf, begun as begunOf, stopped as stoppedOf, clocked as clockedOf, updated as updatedOf, beforeByte, afterByte, fallScan};
+ghost use Rattle.scan.specs.Run.{runningAfter, cleared as clearedOf, taken as takenOf, begun as begunOf, stopped as stoppedOf, clocked as clockedOf, resumed as resumedOf, updated as updatedOf, beforeByte, afterByte, fallScan, riseScan};
 use crate::check::Changed;
 use crate::check::Check;
 use crate::check::check_lent;
@@ -28,8 +28,7 @@ use crate::state::start_clock;
 use crate::state::with_ticking;
 use clock::Time;
 
-// What a byte or a warm rise does to the scan: it makes it run, leaves it running, or the scan does
-// not run.
+// What a byte does to the scan: it makes it run, leaves it running, or the scan does not run.
 pub enum Running {
     Begins,
     Continues,
@@ -139,7 +138,20 @@ fn clocked(scan: Scan, settings: Settings, moment: Time) -> Scan
     with_ticking(scan, start_clock(moment, rate), rate)
 }
 
-// The scan after a byte or a warm rise.
+// A scan that ran before: it goes on, or does not run any more.
+fn resumed(scan: Scan, settings: Settings, moment: Time, runs: bool) -> Scan
+    requires { ⌜ inRange moment ≡ true ⌝ }
+    requires { ⌜ validSettings settings ≡ true ⌝ }
+    requires { ⌜ checkScan scan ≡ none ⌝ }
+    ensures { λ r. ⌜ r ≡ resumedOf scan settings moment runs ⌝ }
+{
+    if runs {
+        return clocked(cleared(scan, settings), settings, moment);
+    }
+    stopped(cleared(scan, settings))
+}
+
+// The scan after a byte.
 fn updated(
     scan: Scan,
     settings: Settings,
@@ -157,8 +169,8 @@ fn updated(
 {
     match running {
         Running::Begins => clocked(begun(settings, ram, icons), settings, moment),
-        Running::Continues => clocked(cleared(scan, settings), settings, moment),
-        Running::Stands => stopped(cleared(scan, settings)),
+        Running::Continues => resumed(scan, settings, moment, true),
+        Running::Stands => resumed(scan, settings, moment, false),
     }
 }
 
@@ -191,7 +203,7 @@ impl Scan {
         }
     }
 
-    // The scan after a byte or a warm rise, with the settings and memory that it left.
+    // The scan after a byte, with the settings and memory that it left.
     pub fn after_byte(
         self,
         settings: Settings,
@@ -232,6 +244,25 @@ impl Scan {
         Changed {
             check: Check::Passed,
             scan: stopped(latest),
+        }
+    }
+
+    // The scan after a warm rise of the supply, `runs` saying whether it runs. It counts as having
+    // run before, so that none begins.
+    pub fn rise(self, settings: Settings, now: Time, runs: bool) -> Changed
+        ensures { λ r. ⌜ answered r ≡ riseScan self settings now runs ⌝ }
+    {
+        let check = check_moment(self, settings.valid(), now);
+        let Check::Passed = check else {
+            return Changed {
+                check: check,
+                scan: self,
+            };
+        };
+        let scan = resumed(self, settings, now, runs);
+        Changed {
+            check: Check::Passed,
+            scan: scan,
         }
     }
 }

@@ -101,7 +101,11 @@ fn share_level(present: bool, target: u32, n: u8, f: u8) -> Level
     requires { ⌜ (0 < n) × (f ≤ n) ⌝ }
     ensures { λ r. ⌜ r ≡ levelAt present (share target n f) ⌝ }
 {
-    level_at(present, share_of(target, n, f))
+    // A division is slow, so it is done for a level that is present only.
+    if present {
+        return Level::Microvolts(share_of(target, n, f));
+    }
+    Level::Absent
 }
 
 pub(crate) fn voltages_of(settings: Settings, supply: Supply) -> LcdVoltages

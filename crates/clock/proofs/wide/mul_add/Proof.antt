@@ -2,7 +2,7 @@
 use Prim.Native.Nat.{_+_, _*_, _/_, _%_, _^_}
 use native.Mathlib.Omega.{arith}
 use borrow.Author.Needs.{needs}
-use Rattle.clock.proofs.Words.{words, half-product, columns, low-column-lt, middle-column-lt}
+use Rattle.clock.proofs.Words.{words, half-product, columns, low-column-le, middle-column-le}
 use Rattle.clock.proofs.wide.mul_add.Statement.{statement}
 use Rattle.clock.proofs.wide.mul_add.Tie as tie
 
@@ -12,7 +12,7 @@ mul-t c = omega (arith, half-product {a = c .before .args .w .low % 2 ^ 32} (ome
 add-t : tie.Need-add-t
 add-t c =
     let a = c .before .args in
-    omega (arith, low-column-lt (a .w .high) (a .w .low) (a .m) (a .c) (c .before .pre .1 .0) (c .before .pre .1 .1))
+    omega (arith, low-column-le (a .w .high) (a .w .low) (a .m) (a .c) (c .before .pre .1 .0) (c .before .pre .1 .1))
 
 mul-u : tie.Need-mul-u
 mul-u c = omega (arith, half-product {a = c .before .before .args .w .low / 2 ^ 32} (omega arith) (c .before .before .pre .1 .0))
@@ -20,7 +20,7 @@ mul-u c = omega (arith, half-product {a = c .before .before .args .w .low / 2 ^ 
 add-u : tie.Need-add-u
 add-u c =
     let a = c .before .before .args in
-    omega (arith, middle-column-lt (a .w .high) (a .w .low) (a .m) (a .c) (c .before .before .pre .1 .0) (c .before .before .pre .1 .1) (omega arith))
+    omega (arith, middle-column-le (a .w .high) (a .w .low) (a .m) (a .c) (c .before .before .pre .1 .0) (c .before .before .pre .1 .1) (omega arith))
 
 mul-t6 : tie.Need-mul-t6
 mul-t6 c = omega (arith, half-product (c .before .before .before .pre .0) (c .before .before .before .pre .1 .0))
@@ -28,7 +28,7 @@ mul-t6 c = omega (arith, half-product (c .before .before .before .pre .0) (c .be
 add-t7 : tie.Need-add-t7
 add-t7 c =
     let a = c .before .before .before .args in
-    omega (arith, half-product (c .before .before .before .pre .0) (c .before .before .before .pre .1 .0), middle-column-lt (a .w .high) (a .w .low) (a .m) (a .c) (c .before .before .before .pre .1 .0) (c .before .before .before .pre .1 .1) (omega arith))
+    omega (arith, half-product (c .before .before .before .pre .0) (c .before .before .before .pre .1 .0), middle-column-le (a .w .high) (a .w .low) (a .m) (a .c) (c .before .before .before .pre .1 .0) (c .before .before .before .pre .1 .1) (omega arith))
 
 returns : tie.Need-returns
 returns c =

@@ -12,14 +12,14 @@ returns c = simp (failed (c .before .before .driven .ensures) (c .before .if1 .t
 
 drive-of-requires : tie.Need-drive-of-requires
 drive-of-requires c κs =
-    let g = c .before .before .before .before .before .before .pre in
-    (rw (c .before .in-pieces .ensures) (counted-passes _ _ _ (g .0) (g .1 .0) (g .1 .1 .0)), g .1 .1 .1)
+    let g = c .before .before .before .before .before .pre in
+    (rw (c .latest .ensures) (counted-passes _ _ _ (g .0) (g .1 .0) (g .1 .1 .0)), g .1 .1 .1)
 
 returns-2 : tie.Need-returns-2
 unfolding driveAt frameAt
 returns-2 c =
-    let counted = c .before .before .before in
-    simp (passed (counted .before .before .driven .ensures) (counted .before .if1 .left), c .quanta-of .ensures, c .before .drive-of .ensures, counted .in-pieces .ensures)
+    let counted = c .before .before in
+    simp (passed (counted .before .before .driven .ensures) (counted .before .if1 .left), c .quanta-of .ensures, c .before .drive-of .ensures, counted .latest .ensures)
 
 pub driven-at-spec : {M : Type 1} → statement M
 driven-at-spec =

@@ -1,37 +1,23 @@
 -- `scan::latch::present_latch` meets its contract.
-use Prim.Native.Nat.{_+_, _-_, _*_, _/_}
-use mathlib.Core.Path.{_≡_, sym, _∙_}
-use native.Mathlib.Omega.{arith}
+use mathlib.Core.Path.{_∙_}
 use borrow.Author.Needs.{needs}
-use Rattle.scan.proofs.Latches.{latch-of-icons, latch-of-ram, row-le}
+use Rattle.scan.proofs.Latches.{latch-by, row-le}
 use Rattle.scan.proofs.latch.present_latch.Statement.{statement}
 use Rattle.scan.proofs.latch.present_latch.Tie as tie
 
+row-words-requires : tie.Need-row-words-requires
+row-words-requires c κs =
+    let start = c .before .before .before .before in
+    (rw (c .latched-row .ensures) (row-le (start .args .scan)), (start .pre .1 .0, start .pre .1 .1))
+
 returns : tie.Need-returns
-returns c = c .words .ensures ∙ latch-of-icons _ _ _ _ (sym (c .before .before .latched-row .ensures) ∙ c .before .if1 .taken)
-
-part-words-end : tie.Need-part-words-end
-part-words-end c = omega (arith, c .before .latched-row .ensures, row-le (c .before .before .before .before .args .scan), c .before .before .before .before .pre .1 .0, c .if1 .left)
-
-returns-2 : tie.Need-returns-2
-returns-2 c =
-    let at-if1 = c .before .before in
-    let row = at-if1 .before .latched-row .result in
-    let whole : row / 8 * 256 + 256 - row / 8 * 256 ≡ 256 = omega arith in
-    c .words2 .ensures ∙ latch-of-ram _ _ _ _ _ _ (at-if1 .before .latched-row .ensures) (at-if1 .if1 .left) whole
+returns c =
+    let at-latched-row = c .before in
+    let at-active-shades = at-latched-row .before in
+    let start = at-active-shades .before .before .before in
+    let a = start .args in
+    c .row-words .ensures
+    ∙ latch-by (a .scan) (a .settings) (a .ram .now) (a .icons .now) (start .pre .1 .0) (start .pre .1 .1) (at-latched-row .latched-row .ensures) (at-active-shades .active-shades .ensures)
 
 pub present-latch-spec : {M : Type 1} → statement M
-present-latch-spec =
-    tie.close
-    (tie.spec
-    (λ c κs. search needs)
-    (λ c κs. search needs)
-    returns
-    (λ c. search needs)
-    (λ c. search needs)
-    (λ c. search needs)
-    (λ c. search needs)
-    (λ c. search needs)
-    part-words-end
-    (λ c κs. search needs)
-    returns-2)
+present-latch-spec = tie.close (tie.spec (λ c κs. search needs) (λ c κs. search needs) row-words-requires returns)
