@@ -13,4 +13,5 @@ pub mod Latches
 pub mod Images
 pub mod Runs
 pub mod Drives
+pub mod Held
 pub mod Answers

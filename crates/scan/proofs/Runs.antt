@@ -130,7 +130,7 @@ module _ (x : Scan) (s : Settings) (ram icons : List ℕ) where
   unfolding shown withTicking
   ticking-shown t = ap (cond (x .latch .latched) (x .latch .segments)) (latch-alike {x = withTicking x t} {y = x} s ram icons (record { step = refl; row = refl; frame = refl; frc = refl; pwm = refl }))
 
-  cleared-shown : shown (cleared x s) s ram icons ≡ shown x s ram icons
+  pub cleared-shown : shown (cleared x s) s ram icons ≡ shown x s ram icons
   unfolding shown cleared withInversion
   cleared-shown = ap (cond (x .latch .latched) (x .latch .segments)) (latch-alike {x = cleared x s} {y = x} s ram icons (record { step = refl; row = refl; frame = refl; frc = refl; pwm = refl }))
 
@@ -138,7 +138,7 @@ module _ (x : Scan) (s : Settings) (ram icons : List ℕ) where
   unfolding stopped
   stopped-shown = ticking-shown (record { clock = ScanClock.Stopped; rate = x .ticking .rate })
 
-  clocked-shown : (now : Time) → shown (clocked x s now) s ram icons ≡ shown x s ram icons
+  pub clocked-shown : (now : Time) → shown (clocked x s now) s ram icons ≡ shown x s ram icons
   unfolding clocked startedIf
   clocked-shown now = go (eqb (s .«oscillator_control» % 2) 0) (x .ticking .clock)
     where
@@ -193,7 +193,7 @@ module _ (x : Scan) (s : Settings) where
     inverted = x .inversion .inverted;
   }))
 
-  stopped-same : hasClock (x .ticking .clock) ≡ false → stopped x ≡ x
+  pub stopped-same : hasClock (x .ticking .clock) ≡ false → stopped x ≡ x
   unfolding stopped withTicking hasClock
   stopped-same h = go (x .ticking .clock) refl h
     where

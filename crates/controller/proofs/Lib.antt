@@ -1,0 +1,9 @@
+-- What the crates above may use: the conditions of the checks, what bytes and calls leave, and the edge figures.
+pub mod Checks
+pub mod PowerOn
+pub mod Registers
+pub mod Bytes
+pub mod Parts
+pub mod Groups
+pub mod Supplies
+pub mod Figures

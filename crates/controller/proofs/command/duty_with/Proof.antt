@@ -1,0 +1,10 @@
+-- `controller::command::duty_with` meets its contract.
+use borrow.Author.Needs.{needs}
+use Rattle.controller.proofs.command.duty_with.Statement.{statement}
+use Rattle.controller.proofs.command.duty_with.Tie as tie
+
+returns : tie.Need-returns
+returns c = cc
+
+pub duty-with-spec : {M : Type 1} → statement M
+duty-with-spec = tie.close (tie.spec (λ c κs. search needs) (λ c κs. search needs) (λ c κs. search needs) returns)
