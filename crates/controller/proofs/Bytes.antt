@@ -30,7 +30,7 @@ use Rattle.controller.specs.Check.{awaits, validSaved, validAddress, che
 use Rattle.controller.specs.Event.{ramAfter, iconsAfter}
 use Rattle.controller.specs.Command.{powerAfter, acted, parameterTaken, commandStep}
 use Rattle.controller.specs.Byte.{conditionsOf, nextColumn, pageSent, dataStep, found, stepOf, settledBy, byteTaken}
-use Rattle.controller.proofs.Checks.{Valid, valid, valid-check, called, called-check}
+use Rattle.controller.proofs.Checks.{Valid, valid, valid-check, called, called-check, with-scan-valid}
 use Rattle.controller.proofs.Registers.{command-valid}
 
 -- what holds of both steps holds of the one that a test picks
@@ -112,18 +112,6 @@ pub step-valid : (x : Nt7508) (b : ℕ) (now : Time) → b < 256 → Valid x →
 unfolding stepOf
 step-valid x b now l v = picked (λ (s : Stepped). Valid (s .state)) (x .serial .«data») (data-valid x b now v) (command-valid x b now l v)
 
--- a state with another scan that passes
-with-scan-valid : (x : Nt7508) (k : Scan) → scans.Valid k → Valid x → Valid (withScan x k)
-unfolding withScan
-with-scan-valid x k s v = record {
-  serial = v .serial;
-  address = v .address;
-  display = v .display;
-  analog = v .analog;
-  power = v .power;
-  scan = scans.valid-check k s;
-}
-
 module _ (x : Nt7508) (now : Time) (ram icons : List ℕ) (h : checkLent x now ram icons ≡ none) where
   pub found-valid : Valid (found x now ram icons)
   unfolding found
@@ -132,7 +120,7 @@ module _ (x : Nt7508) (now : Time) (ram icons : List ℕ) (h : checkLent x now r
       let v = valid x (k .state) in
       let y = countTo (x .scan) (x .display) now in
       let counted = count-to-valid (x .display) (valid-settings (x .display) (v .display)) now (k .in-range) (x .scan) (valid-scan (x .scan) (v .scan)) in
-      with-scan-valid x _ (valid-scan _ (retained-check y (x .display) ram icons (pageSent x) ∙ scans.valid-check y counted)) v
+      with-scan-valid x v _ (retained-check y (x .display) ram icons (pageSent x) ∙ scans.valid-check y counted)
 
   module _ (b : ℕ) (l : b < 256) where
     -- what the byte's own step leaves passes the checks of the call
@@ -146,7 +134,7 @@ unfolding settledBy
 settled-valid was s now ram icons h =
     let k = called (s .state) now ram icons h in
     let v = valid (s .state) (k .state) in
-    with-scan-valid (s .state) _ (updated-valid _ _ now _ ram icons (valid-scan _ (v .scan)) (valid-settings _ (v .display)) (k .in-range)) v
+    with-scan-valid (s .state) v _ (scans.valid-check _ (updated-valid _ _ now _ ram icons (valid-scan _ (v .scan)) (valid-settings _ (v .display)) (k .in-range)))
 
 pub byte-valid : (x : Nt7508) (b : ℕ) (now : Time) (ram icons : List ℕ) → b < 256 → checkLent x now ram icons ≡ none → checkState (byteTaken x b now ram icons .state) ≡ none
 byte-valid x b now ram icons l h =
@@ -165,7 +153,6 @@ pub record LineKept (x y : Nt7508) : Type 0 where
   pub supply : y .power .«supply_millivolts» ≡ x .power .«supply_millivolts»
   pub temperature : y .power .«temperature_millicelsius» ≡ x .power .«temperature_millicelsius»
 
--- a command, until `command-keeps` of Registers says it
 command-line : (x : Nt7508) (p : Pending) (b : ℕ) (now : Time) → LineKept x (commandStep x p b now .state)
 unfolding commandStep parameterTaken acted powerAfter withSerial
 command-line x (Pending.Command c) b now = record { selected = refl; «data» = refl; shift = refl; bits = refl; supplied = refl; ready = refl; cold = refl; supply = refl; temperature = refl }
@@ -173,15 +160,16 @@ command-line x Pending.None b now = picked (λ (s : Stepped). LineKept x (s .sta
     (record { selected = refl; «data» = refl; shift = refl; bits = refl; supplied = refl; ready = refl; cold = refl; supply = refl; temperature = refl })
     (record { selected = refl; «data» = refl; shift = refl; bits = refl; supplied = refl; ready = refl; cold = refl; supply = refl; temperature = refl })
 
-step-line : (x : Nt7508) (b : ℕ) (now : Time) → LineKept x (stepOf x b now .state)
+-- a byte's action
+pub step-kept : (x : Nt7508) (b : ℕ) (now : Time) → LineKept x (stepOf x b now .state)
 unfolding stepOf dataStep withAddress
-step-line x b now = picked (λ (s : Stepped). LineKept x (s .state)) (x .serial .«data»)
+step-kept x b now = picked (λ (s : Stepped). LineKept x (s .state)) (x .serial .«data»)
     (record { selected = refl; «data» = refl; shift = refl; bits = refl; supplied = refl; ready = refl; cold = refl; supply = refl; temperature = refl })
     (command-line x (x .serial .pending) b now)
 
 pub byte-serial : (x : Nt7508) (b : ℕ) (now : Time) (ram icons : List ℕ) → LineKept x (byteTaken x b now ram icons .state)
 unfolding byteTaken settledBy found withScan
-byte-serial x b now ram icons = let k = step-line (found x now ram icons) b now in record {
+byte-serial x b now ram icons = let k = step-kept (found x now ram icons) b now in record {
   selected = k .selected;
   «data» = k .«data»;
   shift = k .shift;

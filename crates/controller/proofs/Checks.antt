@@ -4,7 +4,7 @@ use Prim.Native.Nat.{ℕ, _≤_, _<_, _^_}
 use mathlib.Core.Bool.{Bool, true, _&&_, Bool·beq}
 use mathlib.Core.List.{List}
 use mathlib.Core.Option.{Option, none, some}
-use mathlib.Core.Path.{_≡_, refl, sym, _∙_}
+use mathlib.Core.Path.{_≡_, refl, sym, _∙_, ap}
 use lib.Dec.{leb, ltb, eqb}
 use lib.ListN.{length}
 use borrow.Author.Tests.{ltb-true, leb-true, eqb-true}
@@ -20,8 +20,10 @@ use Rattle.voltage.specs.Check as analog
 use Rattle.controller.specs.declared.state.Nt7508.{Nt7508}
 use Rattle.controller.specs.declared.state.Serial.{Serial}
 use Rattle.controller.specs.declared.state.Address.{Address}
+use Rattle.controller.specs.declared.state.Power.{Power}
 use Rattle.controller.specs.declared.check.Refusal.{Refusal}
 use Rattle.controller.specs.declared.check.Check.{Check}
+use Rattle.controller.specs.State.{withScan, withPower, withSerial}
 use Rattle.controller.specs.Check.{refused, validPending, validSerial, validSaved, validAddress, validPower, validState, checkState, restoreOk, groupOk, inOrder, checkMoment, checkMemory, checkLent, checkGroup, checkImage, checkRestore}
 
 -- a state that passes numbers 3 to 5, group by group
@@ -46,6 +48,20 @@ valid x h =
 pub valid-check : (x : Nt7508) → Valid x → checkState x ≡ none
 unfolding checkState validState
 valid-check x v = simp (v .serial, v .address, v .display, v .analog, v .power, v .scan)
+
+-- a state that passes, with one group replaced by one that passes
+module _ (x : Nt7508) (v : Valid x) where
+  pub with-serial-valid : (l : Serial) → validSerial l ≡ true → Valid (withSerial x l)
+  unfolding withSerial
+  with-serial-valid l h = record { serial = h; address = v .address; display = v .display; analog = v .analog; power = v .power; scan = v .scan }
+
+  pub with-power-valid : (p : Power) → validPower p ≡ true → Valid (withPower x p)
+  unfolding withPower
+  with-power-valid p h = record { serial = v .serial; address = v .address; display = v .display; analog = v .analog; power = h; scan = v .scan }
+
+  pub with-scan-valid : (s : Scan) → checkScan s ≡ none → Valid (withScan x s)
+  unfolding withScan
+  with-scan-valid s h = record { serial = v .serial; address = v .address; display = v .display; analog = v .analog; power = v .power; scan = h }
 
 -- every row of a chain that passes
 record Rows (memory image time state restore group : Option ℕ) : Type 0 where
@@ -155,6 +171,29 @@ module _ (x : Nt7508) (now : Time) where
 pub image-called : (x : Nt7508) (ram icons : List ℕ) (bytes : ℕ) → checkImage x ram icons bytes ≡ none → display.checkImage (x .display) ram icons bytes ≡ none
 unfolding display.checkImage display.inOrder
 image-called x ram icons bytes h = let k = painted-checks x ram icons bytes h in let v = valid x (k .state) in simp (k .memory, k .image-ok, v .display)
+
+-- where the state passes, a call is turned down for its arguments alone
+first-none : (a : Option ℕ) → firstOf a none ≡ a
+first-none none = refl
+first-none (some n) = refl
+
+module _ (x : Nt7508) (h : checkState x ≡ none) where
+  pub moment-alone : (now : Time) → checkMoment x now ≡ row 1 (inRange now)
+  unfolding checkMoment inOrder
+  moment-alone now = simp h (first-none (row 1 (inRange now)))
+
+  module _ {ok : Bool} (ram icons : List ℕ) (m : memoryOk ram icons ≡ ok) where
+    pub lent-alone : (now : Time) → checkLent x now ram icons ≡ firstOf (row 2 ok) (row 1 (inRange now))
+    unfolding checkLent inOrder
+    lent-alone now = simp (h, m) (ap (firstOf (row 2 ok)) (first-none (row 1 (inRange now))))
+
+    pub group-alone : (bits count : ℕ) (now : Time) → checkGroup x bits count now ram icons ≡ firstOf (row 2 ok) (firstOf (row 1 (inRange now)) (row 7 (groupOk bits count)))
+    unfolding checkGroup inOrder
+    group-alone bits count now = simp (h, m)
+
+    pub image-alone : (bytes : ℕ) → checkImage x ram icons bytes ≡ firstOf (row 2 ok) (row 8 (imageOk bytes))
+    unfolding checkImage inOrder
+    image-alone bytes = simp (h, m) (ap (firstOf (row 2 ok)) (first-none (row 8 (imageOk bytes))))
 
 -- what a check that was opened by `let Check::Passed = check else` says of its definition, where it passed and where not
 module _ {check : Check} {c : Option ℕ} (e : refused check ≡ c) where

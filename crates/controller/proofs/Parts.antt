@@ -82,26 +82,6 @@ byte-parts x b now ram icons =
     ap (λ (s : Stepped). settledBy (runs (conditionsOf (x .power))) s now (ramAfter (s .store) ram) (iconsAfter (s .store) icons))
     (step-scan x (scanBefore x now ram icons) b now)
 
--- what the registers of the serial line and of the power are after it
-pub record LineKept (x y : Nt7508) : Type 0 where
-  pub selected : y .serial .selected ≡ x .serial .selected
-  pub «data» : y .serial .«data» ≡ x .serial .«data»
-  pub shift : y .serial .shift ≡ x .serial .shift
-  pub bits : y .serial .bits ≡ x .serial .bits
-  pub supplied : y .power .supplied ≡ x .power .supplied
-  pub cold : y .power .cold ≡ x .power .cold
-  pub ready : y .power .ready ≡ x .power .ready
-
-pub step-kept : (x : Nt7508) (b : ℕ) (now : Time) → LineKept x (stepOf x b now .state)
-unfolding dataStep acted powerAfter parameterTaken withAddress withSerial
-step-kept x b now = rw (step-is x b now) (go (x .serial .«data») (x .serial .pending) (awaits b))
-  where
-    go : (d : Bool) (p : Pending) (t : Bool) → LineKept x (cond d (dataStep x b now) (commandTaken x p b now t) .state)
-    go true p t = record { selected = refl; «data» = refl; shift = refl; bits = refl; supplied = refl; cold = refl; ready = refl }
-    go false (Pending.Command c) t = record { selected = refl; «data» = refl; shift = refl; bits = refl; supplied = refl; cold = refl; ready = refl }
-    go false Pending.None true = record { selected = refl; «data» = refl; shift = refl; bits = refl; supplied = refl; cold = refl; ready = refl }
-    go false Pending.None false = record { selected = refl; «data» = refl; shift = refl; bits = refl; supplied = refl; cold = refl; ready = refl }
-
 -- whether a parameter is awaited
 abbrev pub isAwaiting : Pending → Bool
 isAwaiting Pending.None = false

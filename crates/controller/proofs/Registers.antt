@@ -1,5 +1,5 @@
--- What command bytes do to registers: a state that passes numbers 3 to 5 passes them after any byte, and what no command sets
--- is as it was.
+-- What command bytes do to registers: a state that passes numbers 3 to 5 passes them after any byte, and E3 leaves every
+-- register as it was.
 use Prim.Native.Nat.{ℕ, suc, _+_, _*_, _/_, _%_, _≤_, _<_}
 use mathlib.Core.Bool.{Bool, true, false, cond, _&&_, _||_}
 use mathlib.Core.Path.{_≡_, refl, sym}
@@ -208,54 +208,7 @@ module _ (x : Nt7508) (b : ℕ) (now : Time) where
   pub command-valid : b < 256 → Valid x → Valid (commandStep x (x .serial .pending) b now .state)
   command-valid fits v = stepped Valid (λ c. parameter-valid x v c b) (awaiting-valid x v b) (acted-valid x v b)
 
--- what no command byte sets
-pub record Keeps (x y : Nt7508) : Type 0 where
-  pub scan : y .scan ≡ x .scan
-  pub selected : y .serial .selected ≡ x .serial .selected
-  pub «data» : y .serial .«data» ≡ x .serial .«data»
-  pub shift : y .serial .shift ≡ x .serial .shift
-  pub bits : y .serial .bits ≡ x .serial .bits
-  pub supplied : y .power .supplied ≡ x .power .supplied
-  pub supply : y .power .«supply_millivolts» ≡ x .power .«supply_millivolts»
-  pub temperature : y .power .«temperature_millicelsius» ≡ x .power .«temperature_millicelsius»
-  pub cold : y .power .cold ≡ x .power .cold
-  pub ready : y .power .ready ≡ x .power .ready
-
-pub command-keeps : (x : Nt7508) (b : ℕ) (now : Time) → Keeps x (commandStep x (x .serial .pending) b now .state)
-unfolding parameterTaken withSerial acted powerAfter
-command-keeps x b now = stepped x b now (Keeps x) (λ c. left _ _ _ _ _ _ _) (λ e. left _ _ _ _ _ _ _) (left _ _ _ _ _ _ _)
-  where
-    left : (d : scan.Settings) (a : voltage.Settings) (on save oscillator : Bool) (at : Address) (p : Pending) → Keeps x (record {
-      scan = x .scan;
-      display = d;
-      analog = a;
-      power = record {
-        «display_on» = on;
-        «power_save» = save;
-        «oscillator_enabled» = oscillator;
-        supplied = x .power .supplied;
-        «supply_millivolts» = x .power .«supply_millivolts»;
-        «temperature_millicelsius» = x .power .«temperature_millicelsius»;
-        cold = x .power .cold;
-        ready = x .power .ready;
-      };
-      address = at;
-      serial = withPending (x .serial) p;
-    })
-    left d a on save oscillator at p = record {
-      scan = refl;
-      selected = refl;
-      «data» = refl;
-      shift = refl;
-      bits = refl;
-      supplied = refl;
-      supply = refl;
-      temperature = refl;
-      cold = refl;
-      ready = refl;
-    }
-
--- E3
+-- E3 leaves every register as it was
 pub nop-acted : (x : Nt7508) → x .serial .pending ≡ Pending.None → acted x 227 ≡ x
 unfolding acted displayAfter analogAfter powerAfter addressAfter
 nop-acted x h = λ i. record {

@@ -25,22 +25,8 @@ use Rattle.controller.specs.State.{powerOn, withScan, withPower, withSer
 use Rattle.controller.specs.Check.{validPending, validSerial, suppliedAt, validPower, validState, checkState, checkMoment}
 use Rattle.controller.specs.Byte.{conditionsOf}
 use Rattle.controller.specs.Supply.{selectedAs, withData, withTemperature, withReady, withRail, fallen, chilled, coldRisen, warmRisen, risen, switched, railed, deadlineMet}
-use Rattle.controller.proofs.Checks.{Valid, valid, timed}
+use Rattle.controller.proofs.Checks.{Valid, valid, timed, with-serial-valid, with-power-valid, with-scan-valid}
 use Rattle.controller.proofs.PowerOn.{power-on-valid}
-
--- ---- one group replaced
-module _ (x : Nt7508) (v : Valid x) where
-  pub with-serial-valid : (l : Serial) → validSerial l ≡ true → Valid (withSerial x l)
-  unfolding withSerial
-  with-serial-valid l h = record { serial = h; address = v .address; display = v .display; analog = v .analog; power = v .power; scan = v .scan }
-
-  pub with-power-valid : (p : Power) → validPower p ≡ true → Valid (withPower x p)
-  unfolding withPower
-  with-power-valid p h = record { serial = v .serial; address = v .address; display = v .display; analog = v .analog; power = h; scan = v .scan }
-
-  pub with-scan-valid : (s : Scan) → checkScan s ≡ none → Valid (withScan x s)
-  unfolding withScan
-  with-scan-valid s h = record { serial = v .serial; address = v .address; display = v .display; analog = v .analog; power = v .power; scan = h }
 
 -- ---- the calls that set one group
 selected-serial : (l : Serial) (on : Bool) → validSerial l ≡ true → validSerial (selectedAs l on) ≡ true

@@ -8,3 +8,4 @@ pub mod Bits
 pub mod Supply
 pub mod Look
 pub mod Figures
+pub mod Update

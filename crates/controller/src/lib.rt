@@ -8,6 +8,7 @@ mod event;
 mod look;
 mod state;
 mod supply;
+mod update;
 
 pub use bits::Received;
 pub use bits::Taken;
@@ -30,3 +31,4 @@ pub use state::Power;
 pub use state::Ready;
 pub use state::SavedColumn;
 pub use state::Serial;
+pub use update::Updated;

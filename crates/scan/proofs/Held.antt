@@ -142,7 +142,7 @@ module _ (s : Settings) (ram icons : List ℕ) where
         on z = sym (held-counted (f z) now) ∙ ap (λ (w : Scan). held (countTo w s now) s ram icons) (past z)
 
   -- a scan without a clock is not counted on
-  no-clock : (x : Scan) (now : Time) → hasClock (x .ticking .clock) ≡ false → countTo x s now ≡ x
+  pub no-clock : (x : Scan) (now : Time) → hasClock (x .ticking .clock) ≡ false → countTo x s now ≡ x
   no-clock x now h = ap (λ (z : Scan). countTo z s now) (sym (stopped-same x s h)) ∙ stopped-stays x s now ∙ stopped-same x s h
 
   -- ---- two scans that agree

@@ -2,7 +2,7 @@
 -- shown, and where nothing is to be started, dropped or cleared the scan stays as it is.
 use Prim.Native.Nat.{ℕ, zero, suc, _+_, _%_, _<_}
 use mathlib.Core.Bool.{Bool, true, false, cond, not, _&&_, _||_}
-use mathlib.Core.List.{List}
+use mathlib.Core.List.{List, []}
 use mathlib.Core.Logic.{_⊎_, inl, inr}
 use mathlib.Core.Option.{none}
 use mathlib.Core.Path.{_≡_, refl, sym, _∙_, ap}
@@ -256,6 +256,12 @@ module _ (x : Scan) (s : Settings) (now : Time) (ram icons : List ℕ) where
   updated-quiet false true = quiet-from (begun s ram icons) (λ e. e) (λ e. refl)
   updated-quiet was false = record { clock = refl; lines = λ e. cleared-zero e .0; count = λ e. cleared-zero e .1 }
 
+-- a warm rise leaves a scan so
+pub resumed-quiet : (x : Scan) (s : Settings) (now : Time) (runs : Bool) → Quiet (resumed x s now runs) s runs
+unfolding updated
+resumed-quiet x s now true = updated-quiet x s now [] [] true true
+resumed-quiet x s now false = updated-quiet x s now [] [] true false
+
 -- counting and keeping the latch leave it so
 ticked-has : (k : ScanClock) (r new : Rate) → hasClock (ticked k r new) ≡ hasClock k
 unfolding ticked hasClock
@@ -304,3 +310,8 @@ module _ (s : Settings) (runs : Bool) where
 pub power-on-quiet : (s : Settings) → Quiet powerOn s false
 unfolding powerOn hasClock
 power-on-quiet s = record { clock = refl; lines = λ e. refl; count = λ e. refl }
+
+-- a scan that is stopped has no clock
+pub stopped-clock : (x : Scan) → hasClock (stopped x .ticking .clock) ≡ false
+unfolding stopped withTicking hasClock
+stopped-clock x = refl
