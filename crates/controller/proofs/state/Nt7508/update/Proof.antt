@@ -1,6 +1,5 @@
 -- `controller::state::Nt7508::update` meets its contract.
 use Rattle.scan.proofs.Answers.{count-passed}
-use Rattle.controller.specs.State.{withScan}
 use Rattle.controller.specs.Update.{countedTo, update}
 use Rattle.controller.proofs.Checks.{passes, passed-answer, refused-answer, scan-timed}
 use borrow.Author.Needs.{needs}
@@ -12,13 +11,13 @@ unfolding update
 returns c = let at-check-moment = c .before .before in refused-answer (at-check-moment .check-moment .ensures) _ _ (c .enum-told2 .given .1)
 
 returns-2 : tie.Need-returns-2
-unfolding update countedTo withScan
+unfolding update countedTo
 returns-2 c =
-    let at-count-to = c .before in
+    let at-count-to = c .before .before in
     let passed = at-count-to .before .before in
     let checked = passed .before .before .check-moment .ensures in
     let told = passed .enum-told .given .1 in
-    rw (count-passed _ _ _ (at-count-to .count-to .result) (at-count-to .count-to .ensures) (scan-timed _ _ (passes checked told))) (passed-answer checked _ _ told)
+    rw (c .with-scan .ensures, count-passed _ _ _ (at-count-to .count-to .result) (at-count-to .count-to .ensures) (scan-timed _ _ (passes checked told))) (passed-answer checked _ _ told)
 
 pub update-spec : {M : Type 1} → statement M
 update-spec =
@@ -28,5 +27,6 @@ update-spec =
     (λ c. search needs)
     (λ c. search needs)
     returns
+    (λ c κs. search needs)
     (λ c κs. search needs)
     returns-2)
