@@ -1,12 +1,17 @@
 // Cases of the clock. Edge figure P8 of document 01: the edges of rate 129024 from 0 up to 1 s and up
-// to one fraction unit earlier. Then four kinds of lines. A wide number is two words, its seconds and
-// its 64-bit fraction of a second; a clock is its last edge, its rate p/q (an LCD rate), the fraction,
-// which counts p-ths of a fraction unit, and the ordinal. The answers stand behind the |, which no line
-// has.
+// to one fraction unit earlier. Then that clock moved in place, to 1 s and, refused, too far. Then four
+// kinds of lines. A wide number is two words, its seconds and its 64-bit fraction of a second; a clock
+// is its last edge, its rate p/q (an LCD rate), the fraction, which counts p-ths of a fraction unit, and
+// the ordinal. The answers stand behind the |, which no line has.
+ghost use mathlib.Core.Path.{_≡_};
+ghost use Rattle.clock.specs.Check.{refused};
+ghost use Rattle.clock.specs.Edges.{advanceClock};
+use clock::Check;
 use clock::Clock;
 use clock::Edges;
 use clock::Made;
 use clock::Rate;
+use clock::Refusal;
 use clock::Time;
 use ffi::clock_words::nt7508_clock_edges_to;
 use ffi::clock_words::nt7508_clock_moved;
@@ -22,6 +27,54 @@ fn print_edges(clock: Clock, rate: Rate, now: Time) {
     };
     io::print_decimal(STDOUT_FILENO, edges);
     io::write_all(STDOUT_FILENO, b"\n");
+}
+
+// What is answered, and the clock that is left.
+struct Advanced {
+    check: Check,
+    clock: Clock,
+}
+
+// Lends a clock to be moved in place, so that whoever calls this holds it by value.
+fn move_in_place(mut clock: Clock, rate: Rate, edges: u64) -> Advanced
+    ensures { λ r. ⌜ (refused (r .check), r .clock) ≡ advanceClock clock rate edges ⌝ }
+{
+    let check = clock.advance(rate, edges);
+    Advanced {
+        check: check,
+        clock: clock,
+    }
+}
+
+fn number_of(check: Check) -> u64 {
+    match check {
+        Check::Passed => 0,
+        Check::Refused(refusal) => match refusal {
+            Refusal::Time => 1,
+            Refusal::Rate => 4,
+            Refusal::Clock => 5,
+        },
+    }
+}
+
+fn print_word(word: u64, end: &[u8]) {
+    io::print_decimal(STDOUT_FILENO, word);
+    io::write_all(STDOUT_FILENO, end);
+}
+
+// Moves a clock in place and prints the refusal's number, 0 where there is none, then the last edge and
+// the ordinal of the clock that is left.
+fn print_advanced(clock: Clock, rate: Rate, edges: u64) -> Clock {
+    let next = move_in_place(clock, rate, edges);
+    let check = next.check;
+    let moved = next.clock;
+    let at = moved.at;
+    io::write_all(STDOUT_FILENO, b"advance ");
+    print_word(number_of(check), b" ");
+    print_word(at.seconds, b" ");
+    print_word(at.fraction, b" ");
+    print_word(moved.ordinal, b"\n");
+    moved
 }
 
 pub(crate) fn figures() {
@@ -47,6 +100,9 @@ pub(crate) fn figures() {
             fraction: u64::MAX,
         },
     );
+    // The second time by more edges than there are up to 2^32 s.
+    let moved = print_advanced(clock, rate, 129024);
+    print_advanced(moved, rate, 0x4_0000_0000_0000);
 }
 
 fn same_clock(a: &[u64; 8], b: &[u64; 8]) -> bool {

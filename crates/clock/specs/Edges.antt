@@ -2,6 +2,7 @@
 use Prim.Native.Nat.{ℕ, zero, suc, _+_, _/_, _%_, min}
 use mathlib.Core.Bool.{cond}
 use mathlib.Core.Logic.{_⊎_, inl, inr}
+use mathlib.Core.Option.{Option, none, some}
 use lib.Dec.{leb}
 use Rattle.checks.specs.Checks.{firstOf, answer}
 use Rattle.clock.specs.declared.time.Time.{Time}
@@ -75,6 +76,15 @@ countEdges c r now = answer (firstOf (timeRow now) (checkClock c r)) (edgesTo c 
 -- number 1 is here about the time that the call gives, so it comes last
 unfoldable pub moveClock : Clock → Rate → ℕ → ℕ ⊎ Clock
 moveClock c r n = answer (firstOf (checkClock c r) (timeRow (movedBy c r n .at))) (movedBy c r n)
+
+-- the number of the refusal, if any, and the clock that is left: the moved one, or, refused, the one given
+abbrev pub settled : Clock → ℕ ⊎ Clock → Option ℕ × Clock
+settled c (inl why) = (some why, c)
+settled c (inr moved) = (none, moved)
+
+-- the clock moved in place
+unfoldable pub advanceClock : Clock → Rate → ℕ → Option ℕ × Clock
+advanceClock c r n = settled c (moveClock c r n)
 
 -- the edges not later than now, limit of them at the most, and the clock moved by as many
 unfoldable pub passEdges : Clock → Rate → Time → ℕ → ℕ ⊎ (ℕ × Clock)

@@ -5,8 +5,8 @@ ghost use mathlib.Core.Bool.{true};
 ghost use Prim.Native.Nat.{_+_, _/_, _^_, _<_, _≤_, min};
 ghost use Rattle.clock.specs.Rate.{isLcd};
 ghost use Rattle.clock.specs.Time.{inRange};
-ghost use Rattle.clock.specs.Check.{validClock};
-ghost use Rattle.clock.specs.Edges.{started, edgesTo, movedBy, answeredClock, answeredCount, answeredPass, newClock, countEdges, moveClock, passEdges};
+ghost use Rattle.clock.specs.Check.{validClock, refused};
+ghost use Rattle.clock.specs.Edges.{started, edgesTo, movedBy, answeredClock, answeredCount, answeredPass, newClock, countEdges, moveClock, advanceClock, passEdges};
 use crate::check::Check;
 use crate::check::Refusal;
 use crate::position::position_of;
@@ -43,6 +43,12 @@ pub enum Edges {
 pub enum Passed {
     Edges { count: u64, clock: Clock },
     Refused(Refusal),
+}
+
+// What `advance` answers, and the clock that it leaves.
+struct Advanced {
+    check: Check,
+    clock: Clock,
 }
 
 fn smaller(a: u64, b: u64) -> u64
@@ -224,6 +230,32 @@ impl Clock {
             return Made::Refused(Refusal::Time);
         }
         Made::Clock(clock)
+    }
+
+    // What `advance` does, by value.
+    fn advanced(self, rate: Rate, edges: u64) -> Advanced
+        ensures { λ r. ⌜ (refused (r .check), r .clock) ≡ advanceClock self rate edges ⌝ }
+    {
+        let made = self.moved(rate, edges);
+        match made {
+            Made::Clock(clock) => Advanced {
+                check: Check::Passed,
+                clock: clock,
+            },
+            Made::Refused(refusal) => Advanced {
+                check: Check::Refused(refusal),
+                clock: self,
+            },
+        }
+    }
+
+    // Moves the clock forward by edges, in place. A refusal leaves it as it was.
+    pub fn advance(&mut self, rate: Rate, edges: u64) -> Check
+        ensures { λ r. ⌜ (refused r, now (self .exit)) ≡ advanceClock (now (self .entry)) rate edges ⌝ }
+    {
+        let next = (*self).advanced(rate, edges);
+        *self = next.clock;
+        next.check
     }
 
     // The clock moved to the last edge not later than now, by limit edges at the most.
