@@ -75,3 +75,16 @@ field-ends s at end value next h = go (numberAt s at) refl h
               fits = omega (arith, number .fits);
             }
         ended false m f = absurd (never value next f)
+
+-- a number with a byte after it is two bytes at least
+pub field-behind : (s : List ℕ) (at end value next : ℕ) → fieldAt s at end ≡ Read.Number value next → at + 2 ≤ next
+unfolding fieldAt
+field-behind s at end value next h = go (numberAt s at) refl h
+  where
+    go : (r : Read) → numberAt s at ≡ r → endedBy s end r ≡ Read.Number value next → at + 2 ≤ next
+    go Read.Malformed k e = absurd (never value next e)
+    go (Read.Number v n) k e = ended (ltb n (length s) && eqb (getD s n 0) end) e
+      where
+        ended : (t : Bool) → cond t (Read.Number v (n + 1)) Read.Malformed ≡ Read.Number value next → at + 2 ≤ next
+        ended true f = let same-next : n + 1 ≡ next = cc in omega (arith, number-ends s at v n k .behind)
+        ended false f = absurd (never value next f)

@@ -1,2 +1,3 @@
--- What a text says, as far as decimals go.
+-- What a text says, as far as decimals go, and decimals printed.
 pub mod Decimal
+pub mod Print

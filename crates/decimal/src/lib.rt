@@ -1,8 +1,15 @@
 // Reads unsigned decimals out of a text: digits with no leading zero, in 64 bits. A line of them has
-// one space between two and a newline after the last. A place in the text is an index.
+// one space between two and a newline after the last. A place in the text is an index. `print` puts
+// them into lent bytes.
 ghost use mathlib.Core.Path.{_≡_};
 ghost use lib.ListN.{length, getD};
 ghost use Rattle.decimal.specs.Decimal.{isDigit, numberOf, numberAt, fieldAt, separator, lineAt};
+
+mod print;
+
+pub use print::put_byte;
+pub use print::put_bytes;
+pub use print::put_number;
 
 // A number and the place after it, or that there is none.
 pub enum Read {

@@ -1,1 +1,4 @@
 pub mod Answers
+pub mod Blocks
+pub mod Held
+pub mod Temperatures

@@ -35,7 +35,7 @@ fn wide(x: u8) -> u64
     x as u64
 }
 
-fn words_of(drive: LcdDrive) -> [u64; 12]
+pub(crate) fn words_of(drive: LcdDrive) -> [u64; 12]
     ensures { λ r. ⌜ r ≡ driveWords drive ⌝ }
 {
     let common = drive.common;

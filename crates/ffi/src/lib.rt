@@ -2,6 +2,9 @@
 // in and out, one module for each layer. A call that is turned down answers the number that
 // document 01's table gives and changes no lent array; any other answers 0.
 pub mod clock_words;
+pub mod controller_words;
 pub mod drive_words;
+pub mod look_words;
 pub mod scan_words;
+mod state_words;
 pub mod voltage_words;

@@ -61,7 +61,7 @@ fn page_of(sent: bool, page: u8) -> DataPage
     DataPage::None
 }
 
-fn running_of(running: u64, words: &[u64; 8]) -> ScanClock
+pub(crate) fn running_of(running: u64, words: &[u64; 8]) -> ScanClock
     ensures { λ r. ⌜ r ≡ runningOf running (now (words .entry)) ⌝ }
 {
     if running == 0 {
@@ -108,7 +108,7 @@ pub(crate) fn scan_of(w: &[u64; 13], b: &[u8; 14]) -> Scan
 }
 
 // A clock that is stopped has no words of its own.
-fn running_words(clock: ScanClock) -> [u64; 9]
+pub(crate) fn running_words(clock: ScanClock) -> [u64; 9]
     ensures { λ r. ⌜ r ≡ runningWords clock ⌝ }
 {
     match clock {

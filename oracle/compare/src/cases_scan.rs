@@ -13,12 +13,12 @@ use crate::{
 };
 use original::ask::controller::{Controller, PIXELS};
 
-fn sum(numbers: impl Iterator<Item = u64>) -> u64 {
+pub fn sum(numbers: impl Iterator<Item = u64>) -> u64 {
     numbers.fold(0, |sum, x| (31 * sum + x) % (1 << 32))
 }
 
 /// The bytes of memory from a first one on.
-fn memory(step: u64, first: u64, length: u64) -> Vec<u8> {
+pub fn memory(step: u64, first: u64, length: u64) -> Vec<u8> {
     (0..length)
         .map(|index| ((step * index + first) % 251) as u8)
         .collect()

@@ -1,6 +1,6 @@
 //! Where ours is meant to answer otherwise than the original, for the clock,
-//! the voltages and the scan: each by its smallest input, run again on both
-//! sides, so that the list in docs/DIFFERENCES.md cannot go stale. All of these
+//! the voltages and the scan, and in `differences_controller.rs` for the
+//! controller: each by its smallest input, run again on both sides, so that the list in docs/DIFFERENCES.md cannot go stale. All of these
 //! inputs fail document 01's checks, which ours makes at each call. The original
 //! is built with overflow checks; where it panics only by them, the input says
 //! so, with its answer when built without.
@@ -8,6 +8,7 @@ use crate::{
     any::{Checked, Refused},
     chip::Chip,
     chip_words::ChipWords,
+    differences_controller,
     ffi_scan::{self, Lent},
     findings::outcome,
     ours::Ours,
@@ -22,17 +23,17 @@ use original::ask::{
 use std::fmt::Debug;
 
 /// What the original answers, and the number of ours' refusal.
-type Recorded = (&'static str, u64);
+pub type Recorded = (&'static str, u64);
 
 /// An input in words, what both sides answer, and what they answered before.
-struct Difference {
+pub struct Difference {
     input: &'static str,
     original: String,
     ours: Option<u64>,
     recorded: Recorded,
 }
 
-fn differs<T: Debug, U>(
+pub fn differs<T: Debug, U>(
     input: &'static str,
     original: impl FnOnce() -> T,
     ours: Refused<U>,
@@ -302,7 +303,8 @@ fn scans() -> Vec<Difference> {
 
 pub fn run() -> bool {
     let mut good = true;
-    for difference in clocks().into_iter().chain(voltages()).chain(scans()) {
+    let lower = [clocks(), voltages(), scans()].into_iter().flatten();
+    for difference in lower.chain(differences_controller::all()) {
         let Difference {
             input,
             original,

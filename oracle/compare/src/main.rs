@@ -1,23 +1,34 @@
 //! The driver of the oracle: see `usage`, or `oracle/run`, which calls it.
 mod any;
+mod block;
+mod call;
 mod cases;
+mod cases_controller;
 mod cases_scan;
 mod chip;
 mod chip_words;
 mod clock;
 mod compare;
+mod compare_controller;
 mod compare_scan;
 mod damaged;
+mod damaged_controller;
 mod damaged_scan;
 mod differences;
+mod differences_controller;
 mod ffi;
+mod ffi_controller;
 mod ffi_scan;
 mod findings;
 mod fuzz;
+mod line;
+mod lists;
+mod marked;
 mod original_scan;
 mod ours;
 mod paper;
 mod paper_checks;
+mod paper_controller;
 mod paper_scan;
 mod question;
 mod random;
@@ -27,6 +38,7 @@ mod shrink;
 mod side;
 mod speed;
 mod state;
+mod strike;
 mod valid;
 mod voltage;
 
@@ -41,7 +53,10 @@ compare clock ours [COUNT]              the clock; COUNT random rounds (1000000)
 compare voltage ours [ROUNDS]           the voltages; 33554432 settings a round (3)
 compare scan ours [COUNT]               scan, drive and image from COUNT states (200000), and from a
                                         tenth as many that calls reach
-compare controller ours                 not yet
+compare controller ours [COUNT]         the controller: COUNT lists of 50 calls (240000), every byte with
+                                        every awaited command, every group of bits
+compare strike [COUNT]                  demand 3: COUNT lists (200000), whole and with updates and empty
+                                        commands struck
 compare differences                     where ours is meant to answer otherwise than the original
 The original alone:
 compare selfcheck                       show that the oracle answers as document 01 says
@@ -50,10 +65,10 @@ compare fuzz [COUNT]                    damaged states that its validate accepts
 compare clock|voltage|scan paper [COUNT]
                                         with document 01's rules, plainly written (scan 20000)
 Besides:
-compare cases clock|voltage|scan [COUNT]
+compare cases clock|voltage|scan|controller [COUNT]
                                         write a fixed list of the original's answers: some hundred,
                                         and COUNT random ones (clock 2000, and as many boundaries;
-                                        voltage 4000; scan 900)
+                                        voltage 4000; scan 900; controller 96 lists of 50 calls)
 compare speed                           how long a call takes, the original and ours
 --seed N anywhere sets the seed of every random choice (default 7508).
 Exit: 0 no difference; 1 a difference, a panic, or nothing compared; 2 bad usage; 3 not joined yet.";
@@ -66,6 +81,12 @@ const ROUNDS: u64 = 3;
 
 /// Valid states of the scan layer.
 const STATES: u64 = 200_000;
+
+/// Lists of calls of the controller.
+const LISTS: u64 = 240_000;
+
+/// Lists with something struck.
+const STRUCK: u64 = 200_000;
 
 /// The words of the command without `--seed N`, and the seed.
 fn words() -> Option<(Vec<String>, u64)> {
@@ -107,9 +128,16 @@ fn command() -> ExitCode {
             Ok(count) => code(fuzz::run(seed, count.unwrap_or(200_000))),
             Err(_) => usage(),
         },
+        ("strike", count, _) => match number(count) {
+            Ok(count) => code(strike::run_all(seed, count.unwrap_or(STRUCK))),
+            Err(_) => usage(),
+        },
         ("cases", Some("clock"), Ok(count)) => code(cases::clock(seed, count.unwrap_or(2000))),
         ("cases", Some("voltage"), Ok(count)) => code(cases::voltage(seed, count.unwrap_or(4000))),
         ("cases", Some("scan"), Ok(count)) => code(cases_scan::scan(seed, count.unwrap_or(900))),
+        ("cases", Some("controller"), Ok(count)) => {
+            code(cases_controller::controller(seed, count.unwrap_or(96)))
+        }
         (layer @ ("clock" | "voltage" | "scan" | "controller"), Some(side), Ok(count)) => {
             against(layer, side, count, seed)
         }
@@ -148,6 +176,14 @@ fn against(layer: &str, side: &str, count: Option<u64>, seed: u64) -> ExitCode {
             let count = count.unwrap_or(STATES);
             let refusals = damaged_scan::run(&mut random, count);
             both(refusals, code(compare_scan::run(&mut random, count)))
+        }
+        ("controller", "ours") => {
+            let count = count.unwrap_or(LISTS);
+            let refusals = damaged_controller::run(&mut random, count);
+            both(
+                refusals,
+                code(compare_controller::run_all(&mut random, count)),
+            )
         }
         (_, "paper" | "ours") => {
             println!("original = {side}: {layer}: not joined yet, 0 inputs compared");

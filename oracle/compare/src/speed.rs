@@ -3,10 +3,12 @@
 //! of what a call changes, so that only the calls are timed. Answers are shown
 //! to the compiler where they stand: a copy of them would be timed too.
 use crate::{
+    block::{block, Block},
     chip::Chip,
     chip_words::ChipWords,
     clock::{random_clock, random_edges, random_moment},
     ffi::{self, clock_words, words},
+    ffi_controller::{self, LentMut},
     ffi_scan::{self, Lent},
     random::Random,
     side::{ClockState, END},
@@ -26,7 +28,7 @@ use std::{
 /// Rounds of both sides, one after the other.
 const ROUNDS: usize = 15;
 
-/// How many nanoseconds the original works in a round, about.
+/// How many nanoseconds the slower side works in a round, about.
 const ROUND: f64 = 8e7;
 
 /// How many calls were made, and how long they took.
@@ -52,8 +54,8 @@ fn line(
     mut ours: impl FnMut(usize) -> Timed,
 ) {
     // The first calls are slow, and count in no round.
-    let calls = (ROUND / a_call(&mut original, 10_000)) as usize;
-    ours(10_000);
+    let slower = a_call(&mut original, 10_000).max(a_call(&mut ours, 10_000));
+    let calls = (ROUND / slower) as usize;
     let (mut first, mut second) = (Vec::new(), Vec::new());
     for _ in 0..ROUNDS {
         first.push(a_call(&mut original, calls));
@@ -313,15 +315,21 @@ fn timed_on(mut call: impl FnMut(u64)) -> impl FnMut(usize) -> Timed {
     }
 }
 
-/// Bytes to a controller that runs: commands that change nothing, and data for
-/// page 0. Of ours only what the scan does before a byte and after it.
-fn bytes() {
+/// A controller that runs, selected.
+fn running() -> Controller {
     let mut running = Controller::new();
     running.select(true);
     for byte in [0xab, 0xaf, 0x2f] {
         running.byte(byte, 0).expect("a command");
     }
     running.events.clear();
+    running
+}
+
+/// Bytes to a controller that runs: commands that change nothing, and data for
+/// page 0. Of ours only what the scan does before a byte and after it.
+fn scan_bytes() {
+    let running = running();
     for (name, page, apart) in [
         ("command byte, 61 us apart *", None, 50),
         ("command byte, 4 us apart *", None, 46),
@@ -352,6 +360,143 @@ fn bytes() {
     println!("* the original: the whole byte; ours: its scan, `before_byte` and `after_byte`");
 }
 
+/// What ours holds of a controller.
+struct Held {
+    block: Block,
+    ram: Vec<u8>,
+    icons: Vec<u8>,
+}
+
+impl Held {
+    fn of(state: &Controller) -> Self {
+        Self {
+            block: block(state),
+            ram: state.ram().to_vec(),
+            icons: state.icons().to_vec(),
+        }
+    }
+    fn lent(&self) -> Lent<'_> {
+        Lent {
+            ram: &self.ram,
+            icons: &self.icons,
+        }
+    }
+    /// A whole byte.
+    fn byte(&mut self, byte: u8, now: u128, event: &mut [u64; 8]) -> u64 {
+        let lent = LentMut {
+            ram: &mut self.ram,
+            icons: &mut self.icons,
+        };
+        ffi_controller::shift_in(&mut self.block, (byte, 8), now, lent, event)
+    }
+}
+
+/// Whole bytes to a controller that runs: commands that change nothing, data for
+/// page 0, and the oscillator's frequency, by which every second byte changes the
+/// rate of the scan.
+fn bytes() {
+    let running = running();
+    let by_oscillator = {
+        let mut by_oscillator = running.clone();
+        for byte in [0xf7, 2] {
+            by_oscillator.byte(byte, 0).expect("a command");
+        }
+        by_oscillator.events.clear();
+        by_oscillator
+    };
+    let same = |_: u64| 0xe3;
+    let rates = |number: u64| [0xf6, 0, 0xf6, 8][number as usize % 4];
+    let rows: [(&str, &Controller, bool, u32, fn(u64) -> u8); 6] = [
+        ("whole command byte, 61 us apart", &running, false, 50, same),
+        ("whole command byte, 4 us apart", &running, false, 46, same),
+        ("whole data byte, 61 us apart", &running, true, 50, same),
+        ("whole data byte, 4 us apart", &running, true, 46, same),
+        (
+            "whole byte, new rates, 61 us apart",
+            &by_oscillator,
+            false,
+            50,
+            rates,
+        ),
+        (
+            "whole byte, new rates, 4 us apart",
+            &by_oscillator,
+            false,
+            46,
+            rates,
+        ),
+    ];
+    for (name, state, data, apart, byte) in rows {
+        let mut original = state.clone();
+        original.command_data(data);
+        let mut ours = Held::of(&original);
+        let mut event = [0; 8];
+        line(
+            name,
+            timed_on(|number| {
+                let now = u128::from(number) << apart;
+                let done = original.shift_in(byte(number), 8, now);
+                done.expect("a byte");
+                original.events.clear();
+            }),
+            timed_on(|number| {
+                let now = u128::from(number) << apart;
+                black_box(ours.byte(byte(number), now, &mut event));
+                black_box(&event);
+            }),
+        );
+        assert!(ours.block[0] == 1, "a scan that runs");
+    }
+}
+
+/// Drive and image by the controller; and the data line, of which nearly all is
+/// the crossing: the words made a state, its checks, and the state made words.
+fn controllers(random: &mut Random) {
+    let all: Vec<_> = scanned(random)
+        .into_iter()
+        .map(|at| (Held::of(&at.state), at))
+        .collect();
+    let (mut out, mut frame) = ([0; 12], 0);
+    line(
+        "whole drive a second on",
+        timed(&all, |(_, at)| {
+            black_box(&at.state.drive(at.now));
+        }),
+        timed(&all, |(held, at)| {
+            let lent = held.lent();
+            let number = ffi_controller::drive(&held.block, at.now, lent, &mut out, &mut frame);
+            black_box(number);
+            black_box((&out, &frame));
+        }),
+    );
+    let (mut pixels, mut ours) = ([0; PIXELS], [0; PIXELS]);
+    line(
+        "whole image",
+        timed(&all, |(_, at)| {
+            at.state.render(&mut pixels);
+            black_box(&pixels);
+        }),
+        timed(&all, |(held, _)| {
+            black_box(ffi_controller::render(&held.block, held.lent(), &mut ours));
+            black_box(&ours);
+        }),
+    );
+    let mut original = running();
+    let mut ours = Held::of(&original);
+    line(
+        "data line: the crossing and checks",
+        timed_on(|number| {
+            black_box(&mut original).command_data(number % 2 == 0);
+        }),
+        timed_on(|number| {
+            black_box(ffi_controller::command_data(
+                &mut ours.block,
+                number % 2 == 0,
+            ));
+        }),
+    );
+}
+
 pub fn run(seed: u64) -> bool {
     println!(
         "seed {seed}, medians of {ROUNDS} alternating rounds; spread: from the least to the most"
@@ -364,6 +509,8 @@ pub fn run(seed: u64) -> bool {
     clocks(&mut random);
     voltages(&mut random);
     scans(&mut random);
+    scan_bytes();
+    controllers(&mut random);
     bytes();
     true
 }

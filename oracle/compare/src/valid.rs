@@ -198,7 +198,7 @@ pub fn memory(random: &mut Random) -> (Vec<u8>, Vec<u8>) {
 }
 
 /// A moment about an edge that matters, or anywhere before 2^32 s.
-fn near(random: &mut Random, chip: &Chip) -> u128 {
+pub fn near(random: &mut Random, chip: &Chip) -> u128 {
     let Some(clock) = chip.scan.clock_state() else {
         return random.spread(END);
     };

@@ -46,6 +46,11 @@ impl Controller {
     pub fn image(&self) -> Vec<u8> {
         borsh::to_vec(&self.chip)
     }
+    /// Appends the image of all fields but RAM and icons, the first two.
+    pub fn registers(&self, out: &mut Vec<u8>) {
+        let known = |field: &u8| self.chip.get(&[*field], out).is_ok();
+        (2..=u8::MAX).take_while(known).for_each(drop);
+    }
     /// The names of the smallest parts, in declaration order. `scan.clock` is
     /// one of them; its six fields have names only while there is a clock.
     pub fn names() -> Vec<String> {
