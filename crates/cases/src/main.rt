@@ -1,10 +1,11 @@
-// Runs the fixed cases of clock, voltage and scan, a layer after another: the figures of document 01
-// are printed, with some answers of the setting finder, and the layer's list in data/ is replayed,
-// which `oracle/run cases` made of the original's answers. A line is a kind, then the numbers of a
-// case: what is asked, and what the original answers. A line that differs is named, and so is one that
-// holds no case, behind which nothing is read; then the cases are counted. The file `stdout` holds all
-// of this as it should be.
+// Runs the fixed cases of clock, voltage, scan and controller, a layer after another: the figures of
+// document 01 are printed, with some answers of the setting finder, and the layer's list in data/ is
+// replayed, which `oracle/run cases` made of the original's answers. A line is a kind, then the numbers
+// of a case: what is asked, and what the original answers. A line that differs is named, and so is one
+// that holds no case, behind which nothing is read; then the cases are counted. The file `stdout` holds
+// all of this as it should be.
 mod clock_cases;
+mod controller_cases;
 mod scan_cases;
 mod voltage_cases;
 mod words;
@@ -28,6 +29,8 @@ fn length_of(kind: u64) -> usize {
         4 => 11,
         5 => 19,
         6 => 108,
+        7 => 77,
+        8 => 10,
         _ => usize::MAX,
     }
 }
@@ -52,8 +55,8 @@ fn case_at(text: &[u8], at: usize, w: &mut [u64]) -> Case {
     }
 }
 
-// Whether ours answers as a case says.
-fn agrees(kind: u64, w: &[u64; 108]) -> bool {
+// Whether ours answers as a case by itself says.
+fn alone_agrees(kind: u64, w: &[u64; 108]) -> bool {
     match kind {
         1 => clock_cases::micros_agree(w),
         2 => clock_cases::new_agrees(w),
@@ -63,6 +66,18 @@ fn agrees(kind: u64, w: &[u64; 108]) -> bool {
         6 => scan_cases::agrees(w),
         _ => false,
     }
+}
+
+// Whether ours answers as a case says. Those of the controller go on from what the line before left.
+fn agrees(kind: u64, w: &[u64; 108], block: &mut [u64], ram: &mut [u8], icons: &mut [u8]) -> bool {
+    if kind == 7 {
+        controller_cases::begin(w, block, ram, icons);
+        return true;
+    }
+    if kind == 8 {
+        return controller_cases::agrees(w, block, ram, icons);
+    }
+    alone_agrees(kind, w)
 }
 
 // How far a list is replayed: the place of the next line, how many cases there were before it, and
@@ -83,8 +98,18 @@ fn name_line(words: &[u8], line: usize) {
     io::write_all(STDOUT_FILENO, b"\n");
 }
 
-// Replays the next line. Where it holds no case, the list ends.
-fn replay_line(text: &[u8], mut tally: Tally, line: usize) -> Tally {
+// Replays the next line, if there is one. Where it holds no case, the list ends.
+fn replay_line(
+    text: &[u8],
+    mut tally: Tally,
+    line: usize,
+    block: &mut [u64],
+    ram: &mut [u8],
+    icons: &mut [u8],
+) -> Tally {
+    if text.len() <= tally.at {
+        return tally;
+    }
     let mut w = [0u64; 108];
     let case = case_at(text, tally.at, &mut w);
     let Case::Of { kind, next } = case else {
@@ -92,7 +117,7 @@ fn replay_line(text: &[u8], mut tally: Tally, line: usize) -> Tally {
         tally.at = text.len();
         return tally;
     };
-    if !agrees(kind, &w) {
+    if !agrees(kind, &w, block, ram, icons) {
         name_line(b"differs: line ", line);
         tally.differ = more(tally.differ);
     }
@@ -102,16 +127,14 @@ fn replay_line(text: &[u8], mut tally: Tally, line: usize) -> Tally {
 }
 
 // Replays a list. A line has at least a byte, so there are no more lines than bytes.
-fn replay(text: &[u8]) -> Tally {
+fn replay(text: &[u8], block: &mut [u64], ram: &mut [u8], icons: &mut [u8]) -> Tally {
     let mut tally = Tally {
         at: 0,
         cases: 0,
         differ: 0,
     };
     for line in 0..text.len() {
-        if tally.at < text.len() {
-            tally = replay_line(text, tally, line);
-        }
+        tally = replay_line(text, tally, line, block, ram, icons);
     }
     tally
 }
@@ -122,7 +145,10 @@ fn replay_file(path: &[u8]) {
     let fd = os::open_read(path);
     let n = io::read_full(fd, &mut text);
     libc::close(fd);
-    let tally = replay(&text[..n]);
+    let mut block = [0u64; 75];
+    let mut ram = [0u8; 4096];
+    let mut icons = [0u8; 256];
+    let tally = replay(&text[..n], &mut block, &mut ram, &mut icons);
     io::print_decimal(STDOUT_FILENO, tally.cases);
     io::write_all(STDOUT_FILENO, b" cases, ");
     io::print_decimal(STDOUT_FILENO, tally.differ);
@@ -135,4 +161,5 @@ fn main() {
     voltage_cases::figures();
     replay_file(b"voltage");
     replay_file(b"scan");
+    replay_file(b"controller");
 }

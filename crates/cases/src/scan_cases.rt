@@ -67,12 +67,12 @@ fn count_agrees(w: &[u64; 108]) -> bool {
 }
 
 // One number more in a sum.
-fn added(sum: u64, x: u64) -> u64 {
+pub(crate) fn added(sum: u64, x: u64) -> u64 {
     ((sum % 4294967296) * 31 + x % 8589934592) % 4294967296
 }
 
 // Memory by the rule of the list: byte i is (step i + first) mod 251.
-fn fill(step: u64, first: u64, memory: &mut [u8]) {
+pub(crate) fn fill(step: u64, first: u64, memory: &mut [u8]) {
     let mut value = first % 251;
     for i in 0..memory.len() {
         memory[i] = (value % 251) as u8;
@@ -143,7 +143,7 @@ fn drive_agrees(w: &[u64; 108]) -> bool {
         & (electrodes(&drive) == w[106])
 }
 
-fn sum_of(bytes: &[u8]) -> u64 {
+pub(crate) fn sum_of(bytes: &[u8]) -> u64 {
     let mut sum = 0;
     for i in 0..bytes.len() {
         sum = added(sum, wide(bytes[i]));

@@ -117,7 +117,7 @@ pub(crate) fn figures() {
 }
 
 // A line has 2^31 added to its temperature.
-fn temperature(word: u32) -> i32 {
+pub(crate) fn temperature(word: u32) -> i32 {
     ((word as i64) - 2_147_483_648) as i32
 }
 

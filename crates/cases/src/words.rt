@@ -27,6 +27,13 @@ pub(crate) fn narrow(line: &[u64], from: usize, out: &mut [u8]) {
     }
 }
 
+// The words of a line from a place on.
+pub(crate) fn take(line: &[u64], from: usize, out: &mut [u64]) {
+    for i in 0..out.len() {
+        out[i] = word_at(line, from, i);
+    }
+}
+
 // Whether a line has these words from a place on.
 pub(crate) fn same(words: &[u64], line: &[u64], from: usize) -> bool {
     for i in 0..words.len() {

@@ -1,0 +1,216 @@
+// Cases of the controller, in lists of calls. Kind 7 is where a list starts, and agrees with anything:
+//   a block of 75 words (crates/ffi/src/state_words.rt), then a b: RAM byte i is (a i + b) mod 251, icon
+//   byte i is (a i + b + 1) mod 251
+// Kind 8 is a call on what the line before left:
+//   the call and its two numbers: 0 rising (bit), 1 shift_in (bits, count), 2 select (on),
+//     3 command_data (on), 4 set_supply (millivolts), 5 set_temperature (millidegrees C counted from
+//     -2^31), 6 lose_volatile, 7 at_deadline, 8 update, 9 restore, 10 drive, 11 render, 12 voltages,
+//     13 serial_effect_edges (high), 14 deadline, 15 find_setting (low, high)
+//   moment (2): seconds fraction
+//   answers: the number; the sum of what the call gives (an event, pieces, a drive with its frame
+//     length, an image, voltages, edges, the end of the wait, whether there is a pair), or 0 if it is
+//     refused; the sums of the block, of RAM and of icons after it. A sum starts at 0, and each byte,
+//     or each word as its high and its low half, adds as in kind 6.
+use crate::scan_cases::added;
+use crate::scan_cases::fill;
+use crate::scan_cases::sum_of;
+use crate::voltage_cases::temperature;
+use crate::words::take;
+use crate::words::wide;
+use ffi::controller_words::nt7508_controller_at_deadline;
+use ffi::controller_words::nt7508_controller_command_data;
+use ffi::controller_words::nt7508_controller_lose_volatile;
+use ffi::controller_words::nt7508_controller_restore;
+use ffi::controller_words::nt7508_controller_rising;
+use ffi::controller_words::nt7508_controller_select;
+use ffi::controller_words::nt7508_controller_set_supply;
+use ffi::controller_words::nt7508_controller_set_temperature;
+use ffi::controller_words::nt7508_controller_shift_in;
+use ffi::controller_words::nt7508_controller_update;
+use ffi::look_words::nt7508_controller_deadline;
+use ffi::look_words::nt7508_controller_drive;
+use ffi::look_words::nt7508_controller_find_setting;
+use ffi::look_words::nt7508_controller_render;
+use ffi::look_words::nt7508_controller_serial_effect_edges;
+use ffi::look_words::nt7508_controller_voltages;
+
+// The number of a call, and the sum of what it gives.
+struct Given {
+    number: u64,
+    sum: u64,
+}
+
+fn sum_of_words(words: &[u64]) -> u64 {
+    let mut sum = 0;
+    for i in 0..words.len() {
+        sum = added(added(sum, words[i] / 4294967296), words[i] % 4294967296);
+    }
+    sum
+}
+
+fn refused(number: u64) -> Given {
+    Given {
+        number: number,
+        sum: 0,
+    }
+}
+
+// A call that gives words, unless it is refused.
+fn gives(number: u64, words: &[u64]) -> Given {
+    if number != 0 {
+        return refused(number);
+    }
+    Given {
+        number: 0,
+        sum: sum_of_words(words),
+    }
+}
+
+fn told(number: u64, event: &[u64; 8]) -> Given {
+    gives(number, event)
+}
+
+fn bits(w: &[u64; 108], block: &mut [u64], ram: &mut [u8], icons: &mut [u8]) -> Given {
+    let mut event = [0u64; 8];
+    if w[0] == 0 {
+        let number = nt7508_controller_rising(block, w[1] != 0, w[3], w[4], ram, icons, &mut event);
+        return told(number, &event);
+    }
+    let number = nt7508_controller_shift_in(
+        block,
+        (w[1] % 256) as u8,
+        (w[2] % 256) as u8,
+        w[3],
+        w[4],
+        ram,
+        icons,
+        &mut event,
+    );
+    told(number, &event)
+}
+
+// Calls that change the state and give nothing.
+fn changed(w: &[u64; 108], block: &mut [u64], ram: &mut [u8], icons: &mut [u8]) -> u64 {
+    match w[0] {
+        2 => nt7508_controller_select(block, w[1] != 0),
+        3 => nt7508_controller_command_data(block, w[1] != 0),
+        4 => nt7508_controller_set_supply(block, (w[1] % 65536) as u16, w[3], w[4]),
+        5 => nt7508_controller_set_temperature(block, temperature((w[1] % 4294967296) as u32)),
+        6 => nt7508_controller_lose_volatile(block, ram, icons),
+        7 => nt7508_controller_at_deadline(block, w[3], w[4]),
+        _ => nt7508_controller_restore(block, w[3], w[4], ram, icons),
+    }
+}
+
+fn update(w: &[u64; 108], block: &mut [u64]) -> Given {
+    let mut pieces = 0;
+    let number = nt7508_controller_update(block, w[3], w[4], &mut pieces);
+    gives(number, &[wide(pieces)])
+}
+
+fn driven(drive: &[u64; 12], frame: u16) -> Given {
+    Given {
+        number: 0,
+        sum: added(added(sum_of_words(drive), 0), frame as u64),
+    }
+}
+
+fn drive(w: &[u64; 108], block: &[u64], ram: &[u8], icons: &[u8]) -> Given {
+    let mut out = [0u64; 12];
+    let mut frame: u16 = 0;
+    let number = nt7508_controller_drive(block, w[3], w[4], ram, icons, &mut out, &mut frame);
+    if number != 0 {
+        return refused(number);
+    }
+    driven(&out, frame)
+}
+
+fn render(block: &[u64], ram: &[u8], icons: &[u8]) -> Given {
+    let mut image = [0u8; 6144];
+    let number = nt7508_controller_render(block, ram, icons, &mut image);
+    if number != 0 {
+        return refused(number);
+    }
+    Given {
+        number: 0,
+        sum: sum_of(&image),
+    }
+}
+
+fn levels(number: u64, voltages: &[u64; 7]) -> Given {
+    gives(number, voltages)
+}
+
+fn voltages(block: &[u64]) -> Given {
+    let mut out = [0u64; 7];
+    let number = nt7508_controller_voltages(block, &mut out);
+    levels(number, &out)
+}
+
+fn edges(w: &[u64; 108], block: &[u64]) -> Given {
+    let mut out = 0;
+    let number = nt7508_controller_serial_effect_edges(block, w[1] != 0, &mut out);
+    gives(number, &[wide(out)])
+}
+
+fn end(number: u64, deadline: &[u64; 3]) -> Given {
+    gives(number, deadline)
+}
+
+fn deadline(block: &[u64]) -> Given {
+    let mut out = [0u64; 3];
+    let number = nt7508_controller_deadline(block, &mut out);
+    end(number, &out)
+}
+
+// Which pair it is, is open.
+fn found(w: &[u64; 108], block: &[u64]) -> Given {
+    let mut out = [0u64; 3];
+    let number = nt7508_controller_find_setting(
+        block,
+        (w[1] % 4294967296) as u32,
+        (w[2] % 4294967296) as u32,
+        &mut out,
+    );
+    gives(number, &[out[0]])
+}
+
+fn looked(w: &[u64; 108], block: &[u64], ram: &[u8], icons: &[u8]) -> Given {
+    match w[0] {
+        10 => drive(w, block, ram, icons),
+        11 => render(block, ram, icons),
+        12 => voltages(block),
+        13 => edges(w, block),
+        14 => deadline(block),
+        _ => found(w, block),
+    }
+}
+
+fn called(w: &[u64; 108], block: &mut [u64], ram: &mut [u8], icons: &mut [u8]) -> Given {
+    if w[0] < 2 {
+        return bits(w, block, ram, icons);
+    }
+    if w[0] == 8 {
+        return update(w, block);
+    }
+    if w[0] < 10 {
+        return refused(changed(w, block, ram, icons));
+    }
+    looked(w, block, ram, icons)
+}
+
+// The state and the memory in which a list starts.
+pub(crate) fn begin(w: &[u64; 108], block: &mut [u64], ram: &mut [u8], icons: &mut [u8]) {
+    take(w, 0, block);
+    fill(w[75], w[76], ram);
+    fill(w[75], w[76] % 251 + 1, icons);
+}
+
+pub(crate) fn agrees(w: &[u64; 108], block: &mut [u64], ram: &mut [u8], icons: &mut [u8]) -> bool {
+    let given = called(w, block, ram, icons);
+    (given.number == w[5])
+        & (given.sum == w[6])
+        & (sum_of_words(block) == w[7])
+        & (sum_of(ram) == w[8])
+        & (sum_of(icons) == w[9])
+}
