@@ -7,10 +7,13 @@ use mathlib.Core.Option.{Option, some}
 use mathlib.Core.Path.{_≡_, ap, sym, _∙_}
 use lib.ListN.{length}
 use borrow.Author.Tests.{eqb-true}
+use Rattle.checks.specs.Checks.{unlessRefused}
 use Rattle.checks.proofs.Tests.{both}
 use Rattle.controller.specs.declared.state.Nt7508.{Nt7508}
-use Rattle.ffi.specs.StateWords.{holdsState, stateOf}
+use Rattle.ffi.specs.Words.{checkStatus}
+use Rattle.ffi.specs.StateWords.{holdsState, stateOf, stateWords}
 use Rattle.ffi.specs.ControllerWords.{onBlock, answerOn}
+use Rattle.ffi.proofs.Answers.{status-by, left-by}
 
 pub held-length : (w : List ℕ) → holdsState w ≡ true → length w ≡ 75
 unfolding holdsState
@@ -19,9 +22,9 @@ held-length w e = eqb-true (length w) 75 (both _ _ e .0)
 pub held : {A : Type 0} (w : List ℕ) {p q : Option ℕ × A} → holdsState w ≡ true → p ≡ q → (given : A) → p ≡ onBlock w q given
 held {A} w {p} {q} e by given = by ∙ ap (λ (b : Bool). cond {A = Option ℕ × A} b q (some 20, given)) (sym e)
 
--- a state, where a refusal gives the one that was held
-pub held-state : (w : List ℕ) {p q : Option ℕ × Nt7508} → holdsState w ≡ true → p ≡ q → p ≡ onBlock w q (stateOf w)
-held-state w e by = held w e by (stateOf w)
-
 pub held-answer : {A : Type 0} (w : List ℕ) {p q : ℕ ⊎ A} → holdsState w ≡ true → p ≡ q → p ≡ answerOn w q
 held-answer {A} w {p} {q} e by = by ∙ ap (λ (b : Bool). cond {A = ℕ ⊎ A} b q (inl 20)) (sym e)
+
+-- what a call that changes the state answers and leaves
+pub changed-on : (w : List ℕ) {p q : Option ℕ × Nt7508} {r : ℕ} {after : List ℕ} → holdsState w ≡ true → p ≡ q → (r ≡ checkStatus (p .0)) × (after ≡ unlessRefused (p .0) (stateWords (p .1)) w) → (r ≡ checkStatus (onBlock w q (stateOf w) .0)) × (after ≡ unlessRefused (onBlock w q (stateOf w) .0) (stateWords (onBlock w q (stateOf w) .1)) w)
+changed-on w e by put = let on = held w e by (stateOf w) in (put .0 ∙ status-by on, put .1 ∙ left-by stateWords on w)

@@ -26,7 +26,7 @@ pub temperature-fits : (n : ℕ) → SFits w32 (temperatureOf n)
 temperature-fits n = lowered (n % 2 ^ 32) (omega arith)
 
 -- the sum is no less than 0
-positive : (z : ℤ) → mag z < 2 ^ 31 → (z +ℤ pos 2147483648 ≡ pos (temperatureWord z)) × (temperatureWord z < 2 ^ 32)
+pub positive : (z : ℤ) → mag z < 2 ^ 31 → (z +ℤ pos 2147483648 ≡ pos (temperatureWord z)) × (temperatureWord z < 2 ^ 32)
 positive (pos n) h = (refl, omega arith)
 positive (negsuc n) h = rw (le-ltb 2147483648 (suc n) (omega arith)) (refl, omega arith)
 

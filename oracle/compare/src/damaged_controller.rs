@@ -138,7 +138,14 @@ pub fn run(random: &mut Random, count: u64) -> bool {
     let mut counts = BTreeMap::new();
     let limits = limits();
     let mut good = new(random);
-    println!("paper = ours: new: 200 blocks compared, {good}");
+    println!(
+        "{}new: 200 blocks compared",
+        if good {
+            "paper = ours: "
+        } else {
+            "DIFFERENCE in "
+        }
+    );
     for _ in 0..count {
         let block = lists::free(random).block;
         let now = moment(random, &block);

@@ -1,9 +1,10 @@
 //! Where ours is meant to answer otherwise than the original, for the clock,
 //! the voltages and the scan, and in `differences_controller.rs` for the
-//! controller: each by its smallest input, run again on both sides, so that the list in docs/DIFFERENCES.md cannot go stale. All of these
-//! inputs fail document 01's checks, which ours makes at each call. The original
-//! is built with overflow checks; where it panics only by them, the input says
-//! so, with its answer when built without.
+//! controller: each by its smallest input, run again on both sides, so that the
+//! list in docs/DIFFERENCES.md cannot go stale. All of these inputs fail document
+//! 01's checks, which ours makes at each call. The original is built with overflow
+//! checks; where it panics only by them, the input says so, with its answer when
+//! built without.
 use crate::{
     any::{Checked, Refused},
     chip::Chip,

@@ -391,6 +391,10 @@ impl Held {
     }
 }
 
+/// A row of bytes: its name, the state that they find, whether they are data, how
+/// far they are apart, and which they are.
+type Row<'a> = (&'a str, &'a Controller, bool, u32, fn(u64) -> u8);
+
 /// Whole bytes to a controller that runs: commands that change nothing, data for
 /// page 0, and the oscillator's frequency, by which every second byte changes the
 /// rate of the scan.
@@ -406,7 +410,7 @@ fn bytes() {
     };
     let same = |_: u64| 0xe3;
     let rates = |number: u64| [0xf6, 0, 0xf6, 8][number as usize % 4];
-    let rows: [(&str, &Controller, bool, u32, fn(u64) -> u8); 6] = [
+    let rows: [Row; 6] = [
         ("whole command byte, 61 us apart", &running, false, 50, same),
         ("whole command byte, 4 us apart", &running, false, 46, same),
         ("whole data byte, 61 us apart", &running, true, 50, same),

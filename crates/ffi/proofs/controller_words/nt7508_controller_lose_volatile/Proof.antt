@@ -21,9 +21,6 @@ returns c =
     let no-state = failed (c .before .holds .ensures) (c .if1 .taken) in
     (rw no-state, (rw no-state, (rw no-state, rw no-state)))
 
-state-of-requires : tie.Need-state-of-requires
-state-of-requires c κs = held-length _ (passed (c .before .before .holds .ensures) (c .before .if1 .left))
-
 put-changed-requires : tie.Need-put-changed-requires
 put-changed-requires c κs =
     let at-call = c .before .before .before .before .before in
@@ -49,7 +46,7 @@ nt7508-controller-lose-volatile-spec =
     (λ c κs. search needs)
     (λ c. search needs)
     returns
-    state-of-requires
+    (λ c κs. held-length _ (passed (c .before .before .holds .ensures) (c .before .if1 .left)))
     (λ c κs. search needs)
     put-changed-requires
     (λ c. search needs)

@@ -15,9 +15,6 @@ returns c =
     let no-state = failed (c .before .holds .ensures) (c .if1 .taken) in
     (rw no-state, (rw no-state, rw no-state))
 
-state-of-requires : tie.Need-state-of-requires
-state-of-requires c κs = held-length _ (passed (c .before .before .holds .ensures) (c .before .if1 .left))
-
 put-updated-requires : tie.Need-put-updated-requires
 put-updated-requires c κs =
     let at-if1 = c .before .before .before .before .before in
@@ -43,7 +40,7 @@ nt7508-controller-update-spec =
     (λ c κs. search needs)
     (λ c. search needs)
     returns
-    state-of-requires
+    (λ c κs. held-length _ (passed (c .before .before .holds .ensures) (c .before .if1 .left)))
     (λ c κs. search needs)
     put-updated-requires
     (λ c. search needs)

@@ -12,9 +12,6 @@ returns c =
     let no-state = failed (c .before .holds .ensures) (c .if1 .taken) in
     record { held = λ holds. absurd (false≢true (sym no-state ∙ holds)); refused = λ _. (refl, refl) }
 
-state-of-requires : tie.Need-state-of-requires
-state-of-requires c κs = held-length _ (passed (c .before .holds .ensures) (c .if1 .left))
-
 returns-2 : tie.Need-returns-2
 returns-2 c =
     let at-call = c .before .before in
@@ -37,7 +34,7 @@ nt7508-controller-find-setting-spec =
     (tie.spec
     (λ c κs. search needs)
     returns
-    state-of-requires
+    (λ c κs. held-length _ (passed (c .before .holds .ensures) (c .if1 .left)))
     (λ c κs. search needs)
     (λ c κs. search needs)
     returns-2)
