@@ -15,7 +15,6 @@ use Rattle.checks.proofs.Tests.{both}
 use Rattle.clock.specs.declared.time.Time.{Time}
 use Rattle.clock.specs.Time.{raw}
 use Rattle.scan.specs.Drive.{activeIn}
-use Rattle.controller.specs.declared.state.Ready.{Ready}
 use Rattle.controller.specs.Look.{driveOf}
 use Rattle.strike.specs.Calls.{Call, Machine, start, reply}
 use Rattle.decimal.specs.declared.Read.{Read}
@@ -31,7 +30,7 @@ use Rattle.session.specs.declared.session.Ended.{Ended}
 use Rattle.session.specs.Text.{namesLine, startsWith, opens, longer, linesOf}
 use Rattle.session.specs.Line.{byteWord, dcWord, selectWord, supplyWord, tempWord, deadlineWord, updateWord, driveWord, upTo, valueAt, byteOf, dataOf, selectOf, supplyOf, warmOf, coldOf, temperatureAt, bareOf, lookOf, actionOf, lineWith, lineOf}
 use Rattle.session.specs.Listing.{fieldText, commonField, invertedField, levelField, frameField, activeBelow, litOf, rowOf, driveLine, refusalLine, refusalText, listingNames}
-use Rattle.session.specs.Session.{Turn, Run, Answer, room, checkOf, callOf, dueCall, shownOf, momentOf, turnOf, onward, runFrom, runOf, listing, laid, session, answered}
+use Rattle.session.specs.Session.{Turn, Run, Answer, room, checkOf, waitOf, callOf, dueCall, shownOf, momentOf, turnOf, onward, runFrom, runOf, listing, laid, session, answered}
 
 -- fields
 field-few : (f : Field) (end : ℕ) → length (fieldText f end) ≤ 21
@@ -168,18 +167,18 @@ line-fair l = go (fieldAt l 0 32) refl
         fair s h f = omega (arith, h, f .fair)
 
 -- what a line adds
-shown-few : (us : ℕ) (m : Machine) (now : Time) (a : Action) → length (shownOf us (callOf (m .state) now a) m) ≤ ninety a
+shown-few : (us : ℕ) (m : Machine) (now : Time) (a : Action) → length (shownOf us (callOf (waitOf m) now a) m) ≤ ninety a
 unfolding callOf dueCall reply ninety
 shown-few us m now (Action.Byte value) = omega arith
 shown-few us m now (Action.Data on) = omega arith
 shown-few us m now (Action.Select on) = omega arith
 shown-few us m now (Action.Supply millivolts) = omega arith
 shown-few us m now (Action.Temperature millicelsius) = omega arith
-shown-few us m now Action.Deadline = due (m .state .power .ready)
+shown-few us m now Action.Deadline = due (waitOf m)
   where
-    due : (ready : Ready) → length (shownOf us (dueCall ready now) m) ≤ 0
-    due Ready.Now = omega arith
-    due (Ready.At t) = ended (leb (raw t) (raw now))
+    due : (wait : Option Time) → length (shownOf us (dueCall wait now) m) ≤ 0
+    due none = omega arith
+    due (some t) = ended (leb (raw t) (raw now))
       where
         ended : (b : Bool) → length (shownOf us (cond b (some (Call.Deadline t)) none) m) ≤ 0
         ended true = omega arith

@@ -4,4 +4,7 @@ mod Fields
 mod Listings
 mod Turns
 mod Runs
+mod Joined
+pub mod Struck
 pub mod Lengths
+pub mod Example

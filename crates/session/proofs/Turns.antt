@@ -21,7 +21,7 @@ use Rattle.controller.specs.Check.{refused, answered, checkState, checkMoment, 
 use Rattle.controller.specs.Bits.{Outcome, quiet, edges, unpacked, received, shiftIn}
 use Rattle.controller.specs.Supply.{select, commandData, setSupply, setTemperature, atDeadline}
 use Rattle.controller.specs.Update.{answeredUpdate, update}
-use Rattle.controller.specs.Look.{answeredDrive, driveOf}
+use Rattle.controller.specs.Look.{answeredDrive, driveOf, endOf}
 use Rattle.strike.specs.Calls.{Call, Machine, reply, after, withState, outcome}
 use Rattle.session.specs.declared.line.Action.{Action}
 use Rattle.session.specs.declared.session.Shown.{Shown}
@@ -158,7 +158,7 @@ module _ (us : ℕ) (x : Nt7508) (ram icons : List ℕ) where
       go :
           (ready : Ready) → answered r ≡ waitedOf x ready (momentOf us)
           → turned us (timedDone x (momentOf us) r) ram icons
-          ≡ lineTurn (firstOf (row 1 (inRange (momentOf us))) (refusalOf (dueCall ready (momentOf us)) (machineOf x ram icons))) (afterOf (dueCall ready (momentOf us)) (machineOf x ram icons)) (machineOf x ram icons) (shownOf us (dueCall ready (momentOf us)) (machineOf x ram icons))
+          ≡ lineTurn (firstOf (row 1 (inRange (momentOf us))) (refusalOf (dueCall (endOf ready) (momentOf us)) (machineOf x ram icons))) (afterOf (dueCall (endOf ready) (momentOf us)) (machineOf x ram icons)) (machineOf x ram icons) (shownOf us (dueCall (endOf ready) (momentOf us)) (machineOf x ram icons))
       go Ready.Now e = timed-turn r none x e
       go (Ready.At t) e = due t (leb (raw t) (raw (momentOf us))) e
 

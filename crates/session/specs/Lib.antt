@@ -3,4 +3,5 @@ pub mod Text
 pub mod Line
 pub mod Listing
 pub mod Session
+pub mod Struck
 pub mod Closed

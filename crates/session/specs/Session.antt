@@ -9,9 +9,8 @@ use lib.ListN.{length, drop}
 use Rattle.checks.specs.Checks.{row, firstOf, unlessRefused}
 use Rattle.clock.specs.declared.time.Time.{Time}
 use Rattle.clock.specs.Time.{raw, timeOf, microsRaw, inRange}
-use Rattle.controller.specs.declared.state.Nt7508.{Nt7508}
-use Rattle.controller.specs.declared.state.Ready.{Ready}
 use Rattle.controller.specs.Check as controllers
+use Rattle.controller.specs.Look.{endOf}
 use Rattle.strike.specs.Calls.{Call, Reply, Machine, start, reply, after}
 use Rattle.strike.specs.Strike.{refusal}
 use Rattle.decimal.specs.Print.{put}
@@ -28,22 +27,26 @@ use Rattle.session.specs.Listing.{listingNames, rowOf, driveLine, refusa
 abbrev pub momentOf : (us : ℕ) → Time
 momentOf us = timeOf (microsRaw us)
 
+-- when the controller's start-up wait ends
+abbrev pub waitOf : Machine → Option Time
+waitOf m = endOf (m .state .power .ready)
+
 -- the deadline call at the controller's own ready time if that is not later than the line's moment, else nothing
-unfoldable pub dueCall : Ready → Time → Option Call
-dueCall Ready.Now now = none
-dueCall (Ready.At t) now = cond (leb (raw t) (raw now)) (some (Call.Deadline t)) none
+unfoldable pub dueCall : (wait : Option Time) → Time → Option Call
+dueCall none now = none
+dueCall (some t) now = cond (leb (raw t) (raw now)) (some (Call.Deadline t)) none
 
 -- the call of a line; `byte` is eight edges, high bit first
-unfoldable pub callOf : Nt7508 → Time → Action → Option Call
-callOf x now (Action.Byte value) = some (Call.Bits now 8 value)
-callOf x now (Action.Data on) = some (Call.Data on)
-callOf x now (Action.Select on) = some (Call.Select on)
-callOf x now (Action.Supply millivolts) = some (Call.Supply millivolts now)
-callOf x now (Action.Temperature millicelsius) = some (Call.Temperature millicelsius)
-callOf x now Action.Deadline = dueCall (x .power .ready) now
-callOf x now Action.Update = some (Call.Update now)
-callOf x now Action.Drive = some (Call.Drive now)
-callOf x now Action.Malformed = none
+unfoldable pub callOf : (wait : Option Time) → Time → Action → Option Call
+callOf wait now (Action.Byte value) = some (Call.Bits now 8 value)
+callOf wait now (Action.Data on) = some (Call.Data on)
+callOf wait now (Action.Select on) = some (Call.Select on)
+callOf wait now (Action.Supply millivolts) = some (Call.Supply millivolts now)
+callOf wait now (Action.Temperature millicelsius) = some (Call.Temperature millicelsius)
+callOf wait now Action.Deadline = dueCall wait now
+callOf wait now Action.Update = some (Call.Update now)
+callOf wait now Action.Drive = some (Call.Drive now)
+callOf wait now Action.Malformed = none
 
 -- each moment through the time check: a call that is given it makes the check itself, in the table's order
 abbrev pub givesMoment : Action → Bool
@@ -97,12 +100,12 @@ pub record Turn : Type 0 where
   pub shown : List ℕ
 
 unfoldable pub checkOf : Machine → Time → Action → Option ℕ
-checkOf m now a = firstOf (row 9 (wellFormed a)) (firstOf (row 1 (givesMoment a || inRange now)) (refusalOf (callOf (m .state) now a) m))
+checkOf m now a = firstOf (row 9 (wellFormed a)) (firstOf (row 1 (givesMoment a || inRange now)) (refusalOf (callOf (waitOf m) now a) m))
 
 unfoldable pub turnOf : Line → Machine → Turn
 turnOf l m =
     let now = momentOf (l .us) in
-    let c = callOf (m .state) now (l .action) in
+    let c = callOf (waitOf m) now (l .action) in
     let check = checkOf m now (l .action) in
     record { refusal = check; machine = unlessRefused check (afterOf c m) m; shown = unlessRefused check (shownOf (l .us) c m) [] }
 

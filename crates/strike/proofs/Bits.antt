@@ -2,8 +2,8 @@
 use Prim.Native.Nat.{ℕ, suc, _+_, _*_, _%_, _^_, _≤_, _<_}
 use mathlib.Core.Bool.{Bool, true, false, cond, not, _&&_}
 use mathlib.Core.List.{List, [], _∷_}
-use mathlib.Core.Option.{Option, none, some}
-use mathlib.Core.Path.{_≡_, refl, sym, _∙_, ap, ap₂}
+use mathlib.Core.Option.{none}
+use mathlib.Core.Path.{_≡_, refl, _∙_, ap}
 use native.Mathlib.Nat.{mod-eq-of-lt, pow-suc}
 use native.Mathlib.Numerals.{add-one}
 use native.Mathlib.Omega.{arith}
@@ -13,20 +13,17 @@ use lib.Pow.{pow-mono}
 use borrow.Author.Tests.{lt-ltb, ltb-true}
 use Rattle.checks.proofs.Tests.{both}
 use Rattle.clock.specs.declared.time.Time.{Time}
-use Rattle.clock.specs.Time.{inRange}
 use Rattle.scan.specs.declared.state.Scan.{Scan}
-use Rattle.scan.specs.Check.{memoryOk, checkScan, validSettings}
 use Rattle.scan.proofs.Checks as scans
 use Rattle.controller.specs.declared.state.Nt7508.{Nt7508}
 use Rattle.controller.specs.declared.state.Ready.{Ready}
-use Rattle.controller.specs.declared.event.Event.{Event}
 use Rattle.controller.specs.State.{withScan, withSerial}
-use Rattle.controller.specs.Check.{validPending, validSerial, checkState, checkLent}
+use Rattle.controller.specs.Check.{validPending, validSerial, checkState}
 use Rattle.controller.specs.Event.{unstored}
 use Rattle.controller.specs.Byte.{waiting, byteTaken}
 use Rattle.controller.specs.Bits.{Outcome, taking, withBits, quiet, performed, bitTaken, edge}
 use Rattle.controller.specs.Look.{endOf}
-use Rattle.controller.proofs.Checks.{Valid, valid, valid-check, Called, called-check}
+use Rattle.controller.proofs.Checks.{Valid, valid, valid-check}
 use Rattle.strike.specs.Line.{Line, ready, takes, isWhole, value}
 use Rattle.strike.proofs.Bytes.{stateOf, Tied}
 

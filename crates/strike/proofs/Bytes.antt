@@ -1,15 +1,13 @@
 -- A byte in both runs. The runs have the same registers and scans that agree; a byte that stays does the same to both, and a
 -- struck one, which leaves every register as it was, leaves the full run's scan agreeing with the other.
-use Prim.Native.Nat.{ℕ, _<_}
+use Prim.Native.Nat.{ℕ}
 use mathlib.Core.Bool.{Bool, true, false, cond, not, _&&_, false≢true}
-use mathlib.Core.List.{List, [], _∷_}
-use mathlib.Core.Option.{Option, none, some}
+use mathlib.Core.List.{List, []}
 use mathlib.Core.Path.{_≡_, refl, sym, _∙_, ap, ap₂, subst⁻¹}
 use lib.ListN.{length}
 use Rattle.checks.proofs.Tests.{both}
 use Rattle.clock.specs.declared.time.Time.{Time}
 use Rattle.clock.specs.Time.{inRange}
-use Rattle.scan.specs.declared.settings.Settings.{Settings}
 use Rattle.scan.specs.declared.state.Scan.{Scan}
 use Rattle.scan.specs.declared.latch.DataPage.{DataPage}
 use Rattle.scan.specs.Count.{countTo}
@@ -20,8 +18,6 @@ use Rattle.scan.proofs.Checks as scans
 use Rattle.scan.proofs.Runs.{hasClock, Quiet, updated-same, updated-quiet, count-to-quiet, retained-quiet}
 use Rattle.scan.proofs.Held.{Agree, held, agree-retained, command-same, data-agree}
 use Rattle.controller.specs.declared.state.Nt7508.{Nt7508}
-use Rattle.controller.specs.declared.state.Pending.{Pending}
-use Rattle.controller.specs.declared.event.Event.{Event}
 use Rattle.controller.specs.declared.event.Store.{Store}
 use Rattle.controller.specs.declared.event.Stepped.{Stepped}
 use Rattle.controller.specs.State.{withScan, withAddress, withSerial}
@@ -32,7 +28,7 @@ use Rattle.controller.specs.Byte.{conditionsOf, pageSent, dataStep, stepOf, byt
 use Rattle.controller.specs.Bits.{withBits}
 use Rattle.controller.specs.Look.{endOf}
 use Rattle.controller.proofs.Bytes.{step-kept}
-use Rattle.controller.proofs.Parts.{isAwaiting, scanBefore, scanAfter, besideScan, step-scan, byte-parts, step-awaiting, step-data, step-stores, step-idle, store-outside}
+use Rattle.controller.proofs.Parts.{isAwaiting, scanAfter, besideScan, step-scan, byte-parts, step-awaiting, step-data, step-stores, step-idle, store-outside}
 use Rattle.strike.specs.Line.{Line, value, takes, past}
 
 -- a state by its registers, the bits under way and its scan

@@ -1,45 +1,38 @@
 -- The calls that are no groups of bits, in both runs: each keeps the runs beside the line, and answers the same.
-use Prim.Native.Nat.{ℕ, _≤_}
-use mathlib.Core.Bool.{Bool, true, false, cond, _||_, Bool·beq, false≢true}
+use Prim.Native.Nat.{ℕ}
+use mathlib.Core.Bool.{Bool, true, false, cond, Bool·beq}
 use mathlib.Core.List.{List, []}
 use mathlib.Core.Option.{Option, none, some}
 use mathlib.Core.Path.{_≡_, refl, sym, _∙_, ap}
-use native.Mathlib.Nat.{le-refl, le-trans}
-use lib.Dec.{eqb}
 use lib.IntN.{ℤ}
 use lib.ListN.{length}
-use Rattle.checks.specs.Checks.{row, firstOf, changed}
+use Rattle.checks.specs.Checks.{changed}
 use Rattle.clock.specs.declared.time.Time.{Time}
-use Rattle.clock.specs.Time.{raw, inRange}
+use Rattle.clock.specs.Time.{inRange}
 use Rattle.scan.specs.declared.state.Scan.{Scan}
 use Rattle.scan.specs.State as scan
 use Rattle.scan.specs.Count.{countTo}
-use Rattle.scan.specs.Run.{stopped, resumed}
-use Rattle.scan.specs.Drive.{runs, driveAt, frameAt, off}
+use Rattle.scan.specs.Drive.{runs}
 use Rattle.scan.proofs.Checks as scans
-use Rattle.scan.proofs.Runs.{hasClock, Quiet, count-to-quiet, resumed-quiet, power-on-quiet, stopped-clock}
-use Rattle.scan.proofs.Held.{Agree, no-clock, agree-both, agree-counted, agree-stopped, agree-resumed, agree-drive}
-use Rattle.scan.proofs.Drives.{drive-alike, frame-alike, counted-passes}
+use Rattle.scan.proofs.Runs.{hasClock, count-to-quiet}
+use Rattle.scan.proofs.Held.{no-clock, agree-both, agree-counted}
+use Rattle.scan.proofs.Drives.{counted-passes}
 use Rattle.controller.specs.declared.state.Nt7508.{Nt7508}
 use Rattle.controller.specs.declared.state.Power.{Power}
 use Rattle.controller.specs.declared.state.Ready.{Ready}
-use Rattle.controller.specs.State.{powerOn, withScan, withPower, withSerial}
-use Rattle.controller.specs.Check.{suppliedAt, checkState, checkMoment}
-use Rattle.controller.specs.Byte.{conditionsOf}
-use Rattle.controller.specs.Bits.{withBits}
-use Rattle.controller.specs.Supply.{selectedAs, withData, withTemperature, withReady, withRail, fallen, chilled, coldRisen, warmRisen, risen, switched, railed, deadlineMet, select, commandData, setTemperature, setSupply, atDeadline}
+use Rattle.controller.specs.State.{withScan, withPower, withSerial}
+use Rattle.controller.specs.Check.{checkState, checkMoment}
+use Rattle.controller.specs.Supply.{selectedAs, withData, withTemperature, withReady, deadlineMet, select, commandData, setTemperature, atDeadline}
 use Rattle.controller.specs.Update.{countedTo, update}
-use Rattle.controller.specs.Look.{levelsOf, voltagesOf, driveOf, renderOf, endOf}
-use Rattle.controller.proofs.Checks.{valid, valid-check, with-scan-valid, Timed, timed-check, moment-alone, lent-alone, image-alone}
-use Rattle.controller.proofs.Supplies.{select-valid, line-valid, temperature-valid, deadline-valid, railed-valid}
-use Rattle.strike.specs.Calls.{Call, Reply, Machine, withState, reply, after}
-use Rattle.strike.specs.Line.{Line, value, clears, followSelect, followData, falls, chills, rises, followSupply, isAt, followDeadline}
+use Rattle.controller.specs.Look.{endOf}
+use Rattle.controller.proofs.Checks.{valid, valid-check, with-scan-valid, timed-check}
+use Rattle.controller.proofs.Supplies.{select-valid, line-valid, temperature-valid, deadline-valid}
+use Rattle.strike.specs.Calls.{Call, Machine, after}
+use Rattle.strike.specs.Line.{Line, value, clears, followSelect, followData, isAt, followDeadline}
 use Rattle.strike.specs.Line as line
-use Rattle.strike.specs.Strike.{compared}
-use Rattle.strike.proofs.Bytes.{stateOf, Tied, Alike, running}
+use Rattle.strike.proofs.Bytes.{stateOf, Alike, running}
 use Rattle.strike.proofs.Bits.{settings-valid, scan-valid}
-use Rattle.strike.proofs.Runs.{Runs, keptUnder, machine, runs-later}
-use Rattle.strike.proofs.Groups.{Next, full-good, kept-good, full-memory, kept-memory}
+use Rattle.strike.proofs.Runs.{Runs, keptUnder, machine}
 
 -- what a call leaves and answers where its check passes
 pub new-of : {A : Type 0} {check : Option ℕ} (new given : A) → check ≡ none → changed check new given .1 ≡ new
@@ -209,7 +202,8 @@ module _ {ok : Bool} (now : Time) {l : Line} {m n : Machine} (w : Runs ok now l 
     in-range = i;
   }
 
-  -- the deadline call
+-- ---- the deadline call: it counts nothing, so its moment need not be later than the last one
+module _ {ok : Bool} {at : Time} (now : Time) {l : Line} {m n : Machine} (w : Runs ok at l m n) (i : inRange now ≡ true) where
   met : (p : Power) (r : Ready) → deadlineMet p r now ≡ cond (isAt (endOf r) now) (withReady p false Ready.Now) p
   unfolding deadlineMet isAt
   met p Ready.Now = refl
@@ -231,7 +225,7 @@ module _ {ok : Bool} (now : Time) {l : Line} {m n : Machine} (w : Runs ok now l 
       ap (λ (p : Power). withPower (stateOf (w .c) bits z) p)
       (met (w .c .power) (w .c .power .ready) ∙ ap (λ (t : Bool). cond t (withReady (w .c .power) false Ready.Now) (w .c .power)) (ap (λ (d : Option Time). isAt d now) (w .alike .tied .wait) ∙ e))
 
-  met-alike : (t : Bool) → Alike now (line-met t) (met-registers t) (w .x) (w .y) (w .ram) (w .icons)
+  met-alike : (t : Bool) → Alike at (line-met t) (met-registers t) (w .x) (w .y) (w .ram) (w .icons)
   unfolding line-met met-registers withPower runs
   met-alike true = let a = w .alike in record {
     tied = record { selected = a .tied .selected; isData = a .tied .isData; awaiting = a .tied .awaiting; supplied = a .tied .supplied; cold = refl; wait = refl };
@@ -248,17 +242,17 @@ module _ {ok : Bool} (now : Time) {l : Line} {m n : Machine} (w : Runs ok now l 
 
   does-end : (s : Nt7508) (ram icons : List ℕ) → checkState s ≡ none → after (Call.Deadline now) (machine s ram icons) ≡ machine (ends-wait s) ram icons
   unfolding after atDeadline ends-wait
-  does-end s ram icons h = ap (λ (s : Nt7508). machine s ram icons) (new-of (ends-wait s) s (timely s h))
+  does-end s ram icons h = ap (λ (s : Nt7508). machine s ram icons) (new-of (ends-wait s) s (timed-check s now (record { in-range = i; state = h })))
 
   keeps-end : (s : Nt7508) → checkState s ≡ none → checkState (ends-wait s) ≡ none
   unfolding ends-wait
   keeps-end s h = valid-check (ends-wait s) (deadline-valid s now (valid s h))
 
-  pub deadline-runs : Runs ok now (followDeadline l now) (after (Call.Deadline now) m) (after (Call.Deadline now) n)
+  pub deadline-runs : Runs ok at (followDeadline l now) (after (Call.Deadline now) m) (after (Call.Deadline now) n)
   unfolding followDeadline line-met
   deadline-runs = go (isAt (l .wait) now) refl
     where
-      go : (t : Bool) → isAt (l .wait) now ≡ t → Runs ok now (line-met t) (after (Call.Deadline now) m) (after (Call.Deadline now) n)
+      go : (t : Bool) → isAt (l .wait) now ≡ t → Runs ok at (line-met t) (after (Call.Deadline now) m) (after (Call.Deadline now) n)
       go t e =
           both-do w (Call.Deadline now) ends-wait does-end
           (λ s h. keeps-end s h)

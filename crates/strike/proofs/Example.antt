@@ -9,7 +9,7 @@ use Rattle.controller.specs.Check.{awaits, groupOk}
 use Rattle.controller.specs.Bits.{unpacked}
 use Rattle.strike.specs.Calls.{Call}
 use Rattle.strike.specs.Marks.{Marked, marked, groupOf, plain, full, keptBits, allStruck, emptied, gone, packed, groupCall, left, kept}
-use Rattle.strike.specs.Line.{lineOn, takes, isWhole, value, past, amid, takenBit, followBit, followBits, accepted, followSelect, followData, falls, chills, rises, followSupply, isAt, followDeadline, followCall, follow, mayStrike, goesOn, allowedTaken, isStruck, allowedBit, allowedBits, unmarked, allowedGroup, uncut, allowedCall, allowedOne, allowed}
+use Rattle.strike.specs.Line.{lineOn, takes, isWhole, value, past, amid, takenBit, followBit, followBits, accepted, followSelect, followData, followCall, follow, mayStrike, goesOn, allowedTaken, isStruck, allowedBit, allowedBits, unmarked, allowedGroup, uncut, allowedCall, allowedOne, allowed}
 use Rattle.strike.specs.Strike.{timeOf, neverFall}
 
 -- seconds after power-on

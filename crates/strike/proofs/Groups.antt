@@ -1,14 +1,13 @@
 -- A group of bits as a call of both runs.
 use Prim.Native.Nat.{ℕ, suc, _+_, _≤_}
-use mathlib.Core.Bool.{Bool, true, false, cond, not, _&&_, _||_, false≢true}
+use mathlib.Core.Bool.{Bool, true, false, cond, _&&_, false≢true}
 use mathlib.Core.List.{List, [], _∷_}
 use mathlib.Core.Option.{Option, none, some}
 use mathlib.Core.Path.{_≡_, refl, sym, _∙_, ap, ap₂}
 use native.Mathlib.Nat.{le-refl, le-trans}
 use native.Mathlib.Omega.{arith}
 use lib.ListN.{length}
-use borrow.Author.Tests.{not-true}
-use Rattle.checks.specs.Checks.{row, firstOf, changed}
+use Rattle.checks.specs.Checks.{row, firstOf}
 use Rattle.checks.proofs.Tests.{both}
 use Rattle.clock.specs.declared.time.Time.{Time}
 use Rattle.clock.specs.Time.{raw, inRange}

@@ -2,14 +2,12 @@
 use Prim.Native.Nat.{ℕ, _≤_}
 use mathlib.Core.Bool.{Bool, true, false}
 use mathlib.Core.List.{List}
-use mathlib.Core.Logic.{_⊎_}
-use mathlib.Core.Option.{Option, none, some}
+use mathlib.Core.Option.{Option, none}
 use mathlib.Core.Path.{_≡_, refl, sym, _∙_, ap}
 use lib.ListN.{length}
 use Rattle.checks.specs.Checks.{row, firstOf, answer, changed}
 use Rattle.clock.specs.declared.time.Time.{Time}
 use Rattle.clock.specs.Time.{raw, inRange}
-use Rattle.voltage.specs.declared.LcdVoltages.{LcdVoltages}
 use Rattle.scan.specs.declared.drive.LcdDrive.{LcdDrive}
 use Rattle.scan.specs.Drive.{driven, driveAt, frameAt, off}
 use Rattle.scan.specs.Image.{image}
@@ -17,11 +15,9 @@ use Rattle.scan.proofs.Held.{agree-drive}
 use Rattle.scan.proofs.Drives.{drive-alike, frame-alike}
 use Rattle.controller.specs.declared.state.Nt7508.{Nt7508}
 use Rattle.controller.specs.State.{withScan, withSerial}
-use Rattle.controller.specs.Check.{checkState}
 use Rattle.controller.specs.Byte.{conditionsOf}
 use Rattle.controller.specs.Look.{levelsOf, voltagesOf, driveOf, renderOf}
 use Rattle.controller.proofs.Checks.{lent-alone, image-alone}
-use Rattle.scan.specs.Check.{imageOk}
 use Rattle.strike.specs.Calls.{Machine}
 use Rattle.strike.specs.Line.{Line}
 use Rattle.strike.proofs.Bytes.{stateOf}

@@ -1,10 +1,9 @@
 -- No list from power-on is ever answered 3 to 5, whatever its times: every call leaves a state that passes its checks.
 use Prim.Native.Nat.{ℕ}
-use mathlib.Core.Bool.{Bool, true, false, not, _&&_}
+use mathlib.Core.Bool.{Bool, true, false}
 use mathlib.Core.List.{List, [], _∷_}
-use mathlib.Core.Logic.{_⊎_}
 use mathlib.Core.Option.{Option, none, some}
-use mathlib.Core.Path.{_≡_, refl, sym, _∙_, ap}
+use mathlib.Core.Path.{_≡_, refl, _∙_, ap}
 use lib.ListN.{length}
 use Rattle.checks.specs.Checks.{row, firstOf, answer, changed}
 use Rattle.clock.specs.declared.time.Time.{Time}
@@ -25,7 +24,6 @@ use Rattle.controller.proofs.Groups.{edges-valid}
 use Rattle.controller.proofs.Supplies.{select-valid, line-valid, temperature-valid, deadline-valid, railed-valid}
 use Rattle.strike.specs.Calls.{Call, Reply, Machine, start, reply, after, run}
 use Rattle.strike.specs.Strike.{forState, refusal, noneForState}
-use Rattle.strike.proofs.Calls.{new-of}
 
 module _ (m : Machine) (h : checkState (m .state) ≡ none) where
   -- a call that passes its check leaves what the law says, one that is refused the state given

@@ -1,6 +1,6 @@
 -- The two runs beside the line, kept by a bit and by a group of bits.
 use Prim.Native.Nat.{ℕ, suc, _≤_, _<_}
-use mathlib.Core.Bool.{Bool, true, false, cond, not, _&&_, _||_, Bool·beq, false≢true}
+use mathlib.Core.Bool.{Bool, true, false, cond, not, _&&_, _||_, false≢true}
 use mathlib.Core.List.{List, [], _∷_}
 use mathlib.Core.Option.{none}
 use mathlib.Core.Path.{_≡_, refl, sym, _∙_, ap}
@@ -8,7 +8,7 @@ use native.Mathlib.Omega.{arith}
 use lib.Dec.{eqb}
 use lib.ListN.{length}
 use borrow.Author.Tests.{eqb-true, eqb-false, not-true}
-use Rattle.checks.proofs.Tests.{both, either}
+use Rattle.checks.proofs.Tests.{both}
 use Rattle.clock.specs.declared.time.Time.{Time}
 use Rattle.clock.specs.Time.{raw, inRange}
 use Rattle.scan.specs.declared.state.Scan.{Scan}
@@ -16,22 +16,21 @@ use Rattle.scan.specs.Check.{memoryOk}
 use Rattle.scan.proofs.Held.{Agree, agree-later}
 use Rattle.controller.specs.declared.state.Nt7508.{Nt7508}
 use Rattle.controller.specs.declared.state.Pending.{Pending}
-use Rattle.controller.specs.declared.event.Event.{Event}
 use Rattle.controller.specs.declared.event.Stepped.{Stepped}
 use Rattle.controller.specs.State.{withSerial}
-use Rattle.controller.specs.Check.{awaits, checkState, checkLent}
+use Rattle.controller.specs.Check.{awaits, checkState}
 use Rattle.controller.specs.Event.{ramAfter, iconsAfter}
 use Rattle.controller.specs.Command.{acted}
 use Rattle.controller.specs.Byte.{byteTaken}
-use Rattle.controller.specs.Bits.{Outcome, withBits, performed, quiet, edge}
-use Rattle.controller.proofs.Checks.{Called, called-check}
+use Rattle.controller.specs.Bits.{withBits, performed, quiet, edge}
+use Rattle.controller.proofs.Checks.{called-check}
 use Rattle.controller.proofs.Registers.{nop-acted}
 use Rattle.controller.proofs.Bytes.{byte-valid}
 use Rattle.controller.proofs.Parts.{isAwaiting, stored-memory}
 use Rattle.strike.specs.Calls.{Machine, outcome}
 use Rattle.strike.specs.Marks.{Bit, bit, keptBits}
 use Rattle.strike.specs.Line.{Line, takes, isWhole, value, past, amid, takenBit, followBit, followBits, mayStrike, goesOn, allowedTaken, isStruck, allowedBit, allowedBits}
-use Rattle.strike.proofs.Bytes.{stateOf, Tied, Alike, base, step, before, onward, byte-on, byte-alike, idle-on, idle-alike}
+use Rattle.strike.proofs.Bytes.{stateOf, Alike, base, step, before, onward, byte-on, byte-alike, idle-on, idle-alike}
 use Rattle.strike.proofs.Bits.{value-byte, few-bits, other-bits, settings-valid, scan-valid, edge-idle, edge-more, edge-whole}
 
 -- the bits under way in the kept run

@@ -1,7 +1,7 @@
 -- Demand 3, by one induction over the marked list.
 use Prim.Native.Nat.{ℕ, _≤_}
 use mathlib.Core.Bool.{Bool, true, false, cond, _&&_, false≢true}
-use mathlib.Core.List.{List, [], _∷_, _++_, map}
+use mathlib.Core.List.{List, [], _∷_, map}
 use mathlib.Core.Option.{Option, none, some}
 use mathlib.Core.Path.{_≡_, refl, sym, _∙_, ap, ap₂}
 use native.Mathlib.Nat.{le-refl, le-trans}
@@ -23,19 +23,23 @@ use Rattle.controller.specs.Check.{checkState, checkMoment}
 use Rattle.controller.specs.State.{powerOn, withScan, withPower, withSerial}
 use Rattle.controller.specs.Supply.{railed, deadlineMet, select, commandData, setTemperature, setSupply, atDeadline}
 use Rattle.controller.specs.Update.{countedTo, update}
-use Rattle.controller.specs.Look.{driveOf, renderOf, voltagesOf}
+use Rattle.controller.specs.Look.{endOf}
 use Rattle.controller.proofs.Checks.{moment-alone}
 use Rattle.controller.proofs.PowerOn.{power-on-passes}
 use Rattle.strike.specs.Calls.{Call, Reply, Machine, start, withState, reply, after, run, end}
-use Rattle.strike.specs.Marks.{Marked, plain, full, gone, left, kept, groupOf, emptied}
+use Rattle.strike.specs.Marks.{Marked, plain, full, gone, left, kept, groupOf}
 use Rattle.strike.specs.Line.{Line, lineOn, value, accepted, followSupply, followDeadline, followCall, follow, unmarked, allowedGroup, allowedCall, allowedOne, allowed}
 use Rattle.strike.specs.Strike.{compared, endsStruck, eventless, without, expected, timeOf, neverFall, electrodes, Same, SameMemory, SameElectrodes, Demand3}
 use Rattle.strike.proofs.Bytes.{stateOf}
 use Rattle.strike.proofs.Runs.{Runs, carried, runs-later}
-use Rattle.strike.proofs.Groups.{Next, full-good, kept-good, whole-left, step-group, gone-group, same-group, whole-group}
+use Rattle.strike.proofs.Groups.{Next, full-good, kept-good, full-memory, whole-left, step-group, gone-group, same-group, whole-group}
 use Rattle.strike.proofs.Calls.{data-runs, temperature-runs, select-runs, update-runs, update-gone, deadline-runs}
 use Rattle.strike.proofs.Supply.{supply-runs}
 use Rattle.strike.proofs.Looks.{drive-same, image-same, voltages-same}
+
+-- two runs beside each other: `last` is the last moment, `l` the line
+abbrev pub Beside : (ok : Bool) → (last : ℕ) → Line → (m n : Machine) → Type 0
+Beside ok last l m n = Next ok last l m n
 
 -- a call that is refused for its time leaves the machine
 module _ (now : Time) (m : Machine) (h : checkMoment (m .state) now ≡ row 1 (inRange now)) (i : inRange now ≡ false) where
@@ -101,8 +105,12 @@ module _ (ok : Bool) (last : ℕ) (l : Line) (m n : Machine) (w : Next ok last l
         go true i = made-at (update-gone now (at-now i) i)
         go false i = kept-at (raw now) le (carried refl (update-late now m full-moment i) refl (w .runs))
 
+  -- a deadline call may come at any moment in range
+  pub deadline-any : (now : Time) → inRange now ≡ true → Next ok last (followDeadline l now) (after (Call.Deadline now) m) (after (Call.Deadline now) n)
+  deadline-any now i = kept-at last (le-refl last) (deadline-runs now (w .runs) i)
+
   -- a call that both runs have
-  step-call : (c : Call) → last ≤ timeOf c last → allowedCall ok l c ≡ true → Next ok (timeOf c last) (followCall ok l c) (after c m) (after c n)
+  pub step-call : (c : Call) → last ≤ timeOf c last → allowedCall ok l c ≡ true → Next ok (timeOf c last) (followCall ok l c) (after c m) (after c n)
   unfolding timeOf allowedCall followCall after unmarked
   step-call (Call.Bits now count bits) le h =
       let r = step-group ok last l m n w now count bits [] le h in
@@ -124,11 +132,32 @@ module _ (ok : Bool) (last : ℕ) (l : Line) (m n : Machine) (w : Next ok last l
   step-left (Marked.Bits now count bits marks) le h = step-group ok last l m n w now count bits marks le h
 
   -- a call that the full run alone has
-  step-gone : (k : Marked) → gone k ≡ true → last ≤ timeOf (plain k) last → allowedOne ok l k ≡ true → Next ok (timeOf (plain k) last) (follow ok l k) (after (plain k) m) n
+  pub step-gone : (k : Marked) → gone k ≡ true → last ≤ timeOf (plain k) last → allowedOne ok l k ≡ true → Next ok (timeOf (plain k) last) (follow ok l k) (after (plain k) m) n
   unfolding plain gone follow allowedOne timeOf
   step-gone (Marked.Whole c) g le h = absurd (false≢true g)
   step-gone (Marked.Update now) g le h = update-struck now le
   step-gone (Marked.Bits now count bits marks) g le h = gone-group ok last l m n w now count bits marks le h g
+
+  -- ---- what both runs have
+  -- the full run is as the line says: its wait, a state that passes, and the lengths of memory
+  pub full-wait : endOf (m .state .power .ready) ≡ l .wait
+  unfolding stateOf withScan withSerial
+  full-wait = ap (λ (m : Machine). endOf (m .state .power .ready)) (w .runs .full-is) ∙ w .runs .alike .tied .wait
+
+  pub full-state : checkState (m .state) ≡ none
+  full-state = full-good (w .runs)
+
+  pub full-lengths : memoryOk (m .ram) (m .icons) ≡ ok
+  full-lengths = full-memory (w .runs)
+
+  pub waits-same : endOf (n .state .power .ready) ≡ endOf (m .state .power .ready)
+  unfolding stateOf withScan withSerial
+  waits-same = ap (λ (n : Machine). endOf (n .state .power .ready)) (w .runs .kept-is) ∙ sym (ap (λ (m : Machine). endOf (m .state .power .ready)) (w .runs .full-is))
+
+  pub memory-same : (n .ram ≡ m .ram) × (n .icons ≡ m .icons)
+  memory-same = (
+    ap (λ (n : Machine). n .ram) (w .runs .kept-is) ∙ sym (ap (λ (m : Machine). m .ram) (w .runs .full-is)),
+    ap (λ (n : Machine). n .icons) (w .runs .kept-is) ∙ sym (ap (λ (m : Machine). m .icons) (w .runs .full-is)))
 
   -- ---- the replies
   done : {a b : Option ℕ} → a ≡ b → Reply.Done a ≡ Reply.Done b
@@ -137,8 +166,12 @@ module _ (ok : Bool) (last : ℕ) (l : Line) (m n : Machine) (w : Next ok last l
   states-same : checkState (n .state) ≡ checkState (m .state)
   states-same = kept-good (w .runs) ∙ sym (full-good (w .runs))
 
-  moments-same : (now : Time) → last ≤ raw now → checkMoment (n .state) now ≡ checkMoment (m .state) now
-  moments-same now le = kept-moment now le ∙ sym (full-moment now le)
+  moments-same : (now : Time) → checkMoment (n .state) now ≡ checkMoment (m .state) now
+  moments-same now = moment-alone (n .state) (kept-good (w .runs)) now ∙ sym (moment-alone (m .state) (full-good (w .runs)) now)
+
+  pub deadlines-same : (now : Time) → reply (Call.Deadline now) n ≡ reply (Call.Deadline now) m
+  unfolding reply atDeadline
+  deadlines-same now = done (moments-same now)
 
   eventless-compared : (e : Bool) (r : Option ℕ) (v : Event) → compared (cond e (eventless (Reply.Told r v)) (Reply.Told r v)) ≡ cond e (eventless (Reply.Told r v)) (Reply.Told r v)
   unfolding compared
@@ -153,7 +186,7 @@ module _ (ok : Bool) (last : ℕ) (l : Line) (m n : Machine) (w : Next ok last l
       ap compared (same-group ok last l m n w now count bits marks le h)
       ∙ eventless-compared (accepted ok now count bits && endsStruck l (groupOf count bits marks)) _ _
 
-  same-call : (c : Call) → last ≤ timeOf c last → allowedCall ok l c ≡ true → compared (reply c n) ≡ compared (reply c m)
+  pub same-call : (c : Call) → last ≤ timeOf c last → allowedCall ok l c ≡ true → compared (reply c n) ≡ compared (reply c m)
   unfolding timeOf allowedCall reply compared commandData select setSupply setTemperature atDeadline update unmarked
   same-call (Call.Bits now count bits) le h =
       ap (λ (c : Call). compared (reply c n)) (sym (whole-left now count bits [] refl))
@@ -161,10 +194,10 @@ module _ (ok : Bool) (last : ℕ) (l : Line) (m n : Machine) (w : Next ok last l
       ∙ ap (λ (t : Bool). cond t (eventless (compared (reply (Call.Bits now count bits) m))) (compared (reply (Call.Bits now count bits) m))) (whole-group l ok now count bits)
   same-call (Call.Data on) le h = done states-same
   same-call (Call.Select on) le h = done states-same
-  same-call (Call.Supply millivolts now) le h = done (moments-same now le)
+  same-call (Call.Supply millivolts now) le h = done (moments-same now)
   same-call (Call.Temperature t) le h = done states-same
-  same-call (Call.Deadline now) le h = done (moments-same now le)
-  same-call (Call.Update now) le h = ap (λ (k : Option ℕ). Reply.Counted k 0) (moments-same now le)
+  same-call (Call.Deadline now) le h = deadlines-same now
+  same-call (Call.Update now) le h = ap (λ (k : Option ℕ). Reply.Counted k 0) (moments-same now)
   same-call (Call.Drive now) le h = ap (λ (r : Option ℕ × (LcdDrive × ℕ)). Reply.Driven (r .0) (r .1 .0) (r .1 .1)) (drive-same (w .runs) now (le-trans (w .early) le))
   same-call (Call.Image pixels) le h = ap (λ (r : Option ℕ × List ℕ). Reply.Painted (r .0) (r .1)) (image-same (w .runs) pixels)
   same-call Call.Voltages le h = ap Reply.Levels (voltages-same (w .runs))
@@ -195,8 +228,8 @@ from : (ms : List Marked) (ok : Bool) (l : Line) (last : ℕ) (m n : Machine) �
 unfolding run end kept full expected neverFall allowed
 from [] ok l last m n w times h = record {
   replies = refl;
-  ram-same = ap (λ (m : Machine). m .ram) (w .runs .kept-is) ∙ sym (ap (λ (m : Machine). m .ram) (w .runs .full-is));
-  icons-same = ap (λ (m : Machine). m .icons) (w .runs .kept-is) ∙ sym (ap (λ (m : Machine). m .icons) (w .runs .full-is));
+  ram-same = memory-same ok last l m n w .0;
+  icons-same = memory-same ok last l m n w .1;
 }
 from (k ∷ ms) ok l last m n w times h =
     let t = both (leb last (timeOf (plain k) last)) _ times in
@@ -211,7 +244,7 @@ from (k ∷ ms) ok l last m n w times h =
     go false g le a rest = one-left k ms ok l m n g (same-reply ok last l m n w k le a) (rest (after (left k) n) (step-left ok last l m n w k le a))
 
 -- at power-on both runs are one
-at-start : (ram icons : List ℕ) → Next (memoryOk ram icons) 0 lineOn (start ram icons) (start ram icons)
+pub at-start : (ram icons : List ℕ) → Next (memoryOk ram icons) 0 lineOn (start ram icons) (start ram icons)
 unfolding stateOf withScan withSerial value powerOn runs
 at-start ram icons = record {
   at = record { seconds = 0; fraction = 0 };

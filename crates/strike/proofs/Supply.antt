@@ -2,7 +2,7 @@
 use Prim.Native.Nat.{ℕ, _+_}
 use mathlib.Core.Bool.{Bool, true, false, cond, _||_, Bool·beq, false≢true}
 use mathlib.Core.List.{List, []}
-use mathlib.Core.Option.{Option, none, some}
+use mathlib.Core.Option.{none, some}
 use mathlib.Core.Path.{_≡_, refl, sym, _∙_, ap, subst⁻¹}
 use lib.Dec.{eqb}
 use lib.ListN.{length}
@@ -13,15 +13,13 @@ use Rattle.scan.specs.State as scan
 use Rattle.scan.specs.Count.{countTo}
 use Rattle.scan.specs.Run.{stopped, resumed}
 use Rattle.scan.specs.Drive.{runs}
-use Rattle.scan.proofs.Checks as scans
 use Rattle.scan.proofs.Runs.{resumed-quiet, power-on-quiet, stopped-clock}
 use Rattle.scan.proofs.Held.{agree-stopped, agree-resumed}
 use Rattle.controller.specs.declared.state.Nt7508.{Nt7508}
 use Rattle.controller.specs.declared.state.Ready.{Ready}
 use Rattle.controller.specs.State.{powerOn, withScan, withPower, withSerial}
 use Rattle.controller.specs.Check.{suppliedAt, checkState}
-use Rattle.controller.specs.Byte.{conditionsOf}
-use Rattle.controller.specs.Supply.{selectedAs, withReady, withTemperature, withRail, fallen, chilled, coldRisen, warmRisen, risen, switched, railed, setSupply}
+use Rattle.controller.specs.Supply.{selectedAs, withReady, withRail, fallen, chilled, coldRisen, warmRisen, risen, switched, railed, setSupply}
 use Rattle.controller.proofs.Checks.{valid-check}
 use Rattle.controller.proofs.Supplies.{railed-valid}
 use Rattle.strike.specs.Calls.{Call, Machine, after}

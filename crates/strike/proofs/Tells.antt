@@ -1,5 +1,5 @@
 -- A group ends one byte at the most, so that the struck byte's event is all that it tells.
-use Prim.Native.Nat.{ℕ, suc, _+_, _≤_, _<_}
+use Prim.Native.Nat.{suc, _+_, _≤_, _<_}
 use mathlib.Core.Bool.{Bool, true, false, cond, not, _&&_, _||_, false≢true}
 use mathlib.Core.List.{List, [], _∷_}
 use mathlib.Core.Path.{_≡_, refl, sym, _∙_, ap}
@@ -11,15 +11,14 @@ use Rattle.checks.proofs.Tests.{both}
 use Rattle.clock.specs.declared.time.Time.{Time}
 use Rattle.controller.specs.declared.event.Event.{Event}
 use Rattle.controller.specs.declared.event.Stepped.{Stepped}
-use Rattle.controller.specs.Bits.{Outcome, orElse, edge, performed}
-use Rattle.controller.proofs.Groups.{or-none}
+use Rattle.controller.specs.Bits.{Outcome, orElse, edge}
 use Rattle.strike.specs.Calls.{Machine}
 use Rattle.strike.specs.Marks.{Bit, bit, keptBits}
-use Rattle.strike.specs.Line.{Line, takes, isWhole, value, past, amid, goesOn, mayStrike, allowedTaken, isStruck, takenBit, followBit, followBits, allowedBit, allowedBits}
+use Rattle.strike.specs.Line.{Line, takes, isWhole, value, past, amid, goesOn, mayStrike, allowedTaken, isStruck, takenBit, followBit, allowedBit, allowedBits}
 use Rattle.strike.specs.Strike.{endsStruck}
-use Rattle.strike.proofs.Bytes.{stateOf, step, byte-on}
+use Rattle.strike.proofs.Bytes.{stateOf, byte-on}
 use Rattle.strike.proofs.Bits.{few-bits, edge-idle, edge-more, edge-whole}
-use Rattle.strike.proofs.Runs.{Runs, keptUnder, machine, goes-on, move, moves, allBits, one-bit}
+use Rattle.strike.proofs.Runs.{Runs, keptUnder, machine, goes-on, move, allBits, one-bit}
 
 -- what an edge tells, and edges one after another
 abbrev pub say : Bool → Time → Machine → Event

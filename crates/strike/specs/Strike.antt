@@ -5,19 +5,18 @@
 --
 -- What the statement stands on: Calls.antt (the calls; what each answers and leaves, by the controller's definitions), Marks.antt
 -- (the full and the kept list), Line.antt (what may be struck, followed from the calls alone). The proof is proofs/Struck.antt.
-use Prim.Native.Nat.{ℕ, _≤_}
+use Prim.Native.Nat.{ℕ}
 use mathlib.Core.Bool.{Bool, true, false, cond, not, _&&_, _||_}
 use mathlib.Core.List.{List, [], _∷_, _++_, map}
-use mathlib.Core.Logic.{_⊎_, inl, inr}
+use mathlib.Core.Logic.{inl, inr}
 use mathlib.Core.Option.{Option, none, some}
 use mathlib.Core.Path.{_≡_}
 use lib.Dec.{leb}
-use Rattle.clock.specs.declared.time.Time.{Time}
 use Rattle.clock.specs.Time.{raw}
 use Rattle.scan.specs.Check.{memoryOk}
 use Rattle.scan.specs.Drive.{commonMicrovolts, segmentMicrovolts}
 use Rattle.controller.specs.declared.event.Event.{Event}
-use Rattle.strike.specs.Calls.{Call, Reply, Machine, start, run, end}
+use Rattle.strike.specs.Calls.{Call, Reply, start, run, end}
 use Rattle.strike.specs.Marks.{Marked, Bit, bit, groupOf, full, kept, gone}
 use Rattle.strike.specs.Line.{Line, lineOn, takes, isWhole, followBit, follow, accepted, allowed}
 
