@@ -7,9 +7,10 @@
  * What every function has in common:
  *
  * - It returns a status: 0, or the number of the first check that turns the call down, in the order
- *   2, 8, 1, 3, 4, 5, 6, 7 (20 before all of them). The functions that return something else
+ *   2, 8, 1, 3, 4, 5, 6, 7 (20 and 19 before all of them). The functions that return something else
  *   say so.
- * - A call that is turned down changes nothing that was lent.
+ * - A call that is turned down changes nothing that was lent. Only nt7508_session goes on from line
+ *   to line, and leaves what the lines before the refused one did.
  * - A time is seconds and a fraction of a second in units of 2^-64 s. It has to be before 2^32 s.
  * - An array whose length is not given with it has the length that its name says: lend at least as
  *   many elements. One that is lent with its length may have any; a wrong one is turned down.
@@ -42,6 +43,9 @@ extern "C" {
 #define NT7508_VOLTAGE_WORDS 7
 #define NT7508_DEADLINE_WORDS 3
 #define NT7508_FOUND_WORDS 3
+#define NT7508_TEXT_BYTES 65536    /* the longest text of a session */
+#define NT7508_LISTING_BYTES 589824 /* room for the listing of every text */
+#define NT7508_ENDED_WORDS 2
 
 #define NT7508_CLOCK_WORDS 8
 #define NT7508_ANALOG_BYTES 8      /* the settings of the voltages */
@@ -60,6 +64,8 @@ extern "C" {
 #define NT7508_REFUSED_RESTORE 6  /* restored at a time before its clock, or after the end of its wait */
 #define NT7508_REFUSED_GROUP 7    /* more than 8 bits, or a bit set at or above the count */
 #define NT7508_REFUSED_IMAGE 8    /* an image of another length */
+#define NT7508_REFUSED_LINE 9     /* a session's text too long, its names line wrong, a line malformed */
+#define NT7508_REFUSED_LISTING 19 /* a lent listing of fewer than NT7508_LISTING_BYTES */
 #define NT7508_REFUSED_BLOCK 20   /* a block of another length, or one that holds no state */
 
 /* ---- places in the words that a call gives --------------------------------------------------------- */
@@ -192,9 +198,21 @@ uint64_t nt7508_controller_find_setting(const uint64_t *state, size_t state_word
                                         uint32_t high, uint64_t found[NT7508_FOUND_WORDS]);
 
 /* The voltage of a common (0 to 128) or of a segment (0 to 127) in a drive. They return microvolts,
- * or NT7508_ABSENT for an electrode beyond those. */
+ * or NT7508_ABSENT for an electrode beyond those, in an undriven drive, or without its level. */
 uint64_t nt7508_scan_common_microvolts(const uint64_t drive[NT7508_DRIVE_WORDS], uint8_t common);
 uint64_t nt7508_scan_segment_microvolts(const uint64_t drive[NT7508_DRIVE_WORDS], uint8_t segment);
+
+/* ---- a session ------------------------------------------------------------------------------------ */
+
+/* Runs a text of lines `microseconds word value` from power-on, and prints its listing. The block may
+ * hold anything before; it, RAM and icons get what the session left. `ended` gets how many bytes of
+ * the listing were written, and the line of the refusal or 0. Returns 0, or the number by which a line
+ * was turned down, which the listing then says too. Turned down by 20 for the block's length, and
+ * then nothing changes; by 19 for the listing's, with the state at power-on and nothing else changed;
+ * by 9 for its text, and by the numbers of the lines' calls. */
+uint64_t nt7508_session(const uint8_t *text, size_t text_bytes, uint64_t *state, size_t state_words,
+                        uint8_t *ram, size_t ram_bytes, uint8_t *icons, size_t icon_bytes,
+                        uint8_t *listing, size_t listing_bytes, uint64_t ended[NT7508_ENDED_WORDS]);
 
 /* ---- the clock ------------------------------------------------------------------------------------ */
 
