@@ -3,6 +3,7 @@ pub mod ClockWords
 pub mod ControllerWords
 pub mod DriveWords
 pub mod ScanWords
+pub mod SessionWords
 pub mod StateWords
 pub mod VoltageWords
 pub mod Words

@@ -3,11 +3,11 @@
 //! word there. Nothing else knows the order of the block.
 use crate::{
     chip::{Analog, Chip, Display, Power, Scan},
-    ffi::{parts, words},
+    ffi::{parts, wide, words},
 };
 use original::ask::controller::Controller;
 
-pub const WORDS: usize = 75;
+pub const WORDS: usize = nt7508::STATE_WORDS;
 pub type Block = [u64; WORDS];
 
 /// What a word may be: a yes or no, or a number of so many bytes. A wide number
@@ -31,13 +31,13 @@ struct Field(&'static str, usize, bool, &'static [Form]);
 const PARTS: [Form; 6] = [Wide, Wide, Word, Word, Word, Word];
 
 const FIELDS: [Field; 55] = [
-    Field("selected", SELECTED, false, &[Flag]),
-    Field("data", DATA, false, &[Flag]),
-    Field("shift", SHIFT, false, &[Byte]),
-    Field("bits", BITS, false, &[Byte]),
-    Field("pending", PENDING, true, &[Byte]),
-    Field("page", PAGE, false, &[Byte]),
-    Field("column_byte", COLUMN, false, &[Short]),
+    Field("selected", SELECTED.0, false, &[Flag]),
+    Field("data", DATA.0, false, &[Flag]),
+    Field("shift", SHIFT.0, false, &[Byte]),
+    Field("bits", BITS.0, false, &[Byte]),
+    Field("pending", PENDING.0, true, &[Byte]),
+    Field("page", PAGE.0, false, &[Byte]),
+    Field("column_byte", COLUMN.0, false, &[Short]),
     Field("start_line", 27, false, &[Byte]),
     Field("icon_enabled", 28, false, &[Flag]),
     Field("display_on", 55, false, &[Flag]),
@@ -47,7 +47,7 @@ const FIELDS: [Field; 55] = [
     Field("common_reverse", 32, false, &[Flag]),
     Field("power_save", 56, false, &[Flag]),
     Field("contrast", 47, false, &[Byte]),
-    Field("saved_column", SAVED, true, &[Short]),
+    Field("saved_column", SAVED.0, true, &[Short]),
     Field("initial_com", 33, false, &[Byte]),
     Field("duty", 34, false, &[Byte]),
     Field("inversion_lines", 35, false, &[Byte]),
@@ -63,7 +63,7 @@ const FIELDS: [Field; 55] = [
     Field("contrast_trim", 48, false, &[Byte]),
     Field("otp_control", 49, false, &[Byte]),
     Field("oscillator_enabled", 57, false, &[Flag]),
-    Field("scan.clock", CLOCK, true, &PARTS),
+    Field("scan.clock", CLOCK.0, true, &PARTS),
     Field("scan.rate.0", 9, false, &[Word]),
     Field("scan.rate.1", 10, false, &[Word]),
     Field("scan.duty", 14, false, &[Byte]),
@@ -80,28 +80,61 @@ const FIELDS: [Field; 55] = [
     Field("scan.inversion_count", 25, false, &[Byte]),
     Field("scan.inverted", 26, false, &[Flag]),
     Field("scan.segments", 11, false, &[Word; 2]),
-    Field("scan.latched", 13, false, &[Flag]),
-    Field("supplied", SUPPLIED, false, &[Flag]),
-    Field("supply_millivolts", SUPPLY, false, &[Short]),
+    Field("scan.latched", LATCHED.0, false, &[Flag]),
+    Field("supplied", SUPPLIED.0, false, &[Flag]),
+    Field("supply_millivolts", SUPPLY.0, false, &[Short]),
     Field("temperature_millicelsius", 60, false, &[Signed]),
-    Field("cold", COLD, false, &[Flag]),
-    Field("ready", READY, true, &[Wide]),
+    Field("cold", COLD.0, false, &[Flag]),
+    Field("ready", READY.0, true, &[Wide]),
 ];
 
-/// The places that other files name.
-pub const CLOCK: usize = 0;
-pub const SUPPLIED: usize = 58;
-pub const SUPPLY: usize = 59;
-pub const COLD: usize = 61;
-pub const READY: usize = 62;
-pub const PAGE: usize = 65;
-pub const COLUMN: usize = 66;
-pub const SAVED: usize = 67;
-pub const SELECTED: usize = 69;
-pub const DATA: usize = 70;
-pub const SHIFT: usize = 71;
-pub const BITS: usize = 72;
-pub const PENDING: usize = 73;
+/// Where a field stands, for other files.
+#[derive(Clone, Copy)]
+pub struct Place(usize);
+
+pub const CLOCK: Place = Place(0);
+pub const LATCHED: Place = Place(13);
+pub const SUPPLIED: Place = Place(58);
+pub const SUPPLY: Place = Place(59);
+pub const COLD: Place = Place(61);
+pub const READY: Place = Place(62);
+pub const PAGE: Place = Place(65);
+pub const COLUMN: Place = Place(66);
+pub const SAVED: Place = Place(67);
+pub const SELECTED: Place = Place(69);
+pub const DATA: Place = Place(70);
+pub const SHIFT: Place = Place(71);
+pub const BITS: Place = Place(72);
+pub const PENDING: Place = Place(73);
+
+impl Place {
+    /// Its word; of an Option 1 if there is something, or 0.
+    pub fn get(self, block: &Block) -> u64 {
+        block[self.0]
+    }
+    pub fn put(self, block: &mut Block, word: u64) {
+        block[self.0] = word;
+    }
+    /// The first words of what is in an Option. A time is two, seconds first; a
+    /// clock begins with its last edge.
+    pub fn option<const N: usize>(self, block: &Block) -> Option<[u64; N]> {
+        let words = std::array::from_fn(|index| block[self.0 + 1 + index]);
+        (block[self.0] != 0).then_some(words)
+    }
+    /// The same as one number.
+    pub fn time(self, block: &Block) -> Option<u128> {
+        self.option(block).map(|[high, low]| wide(high, low))
+    }
+    pub fn put_option<const N: usize>(self, block: &mut Block, words: Option<[u64; N]>) {
+        block[self.0] = u64::from(words.is_some());
+        block[self.0 + 1..=self.0 + N].copy_from_slice(&words.unwrap_or([0; N]));
+    }
+}
+
+/// The scan's rate.
+pub fn rate(block: &Block) -> (u64, u64) {
+    (block[9], block[10])
+}
 
 impl Form {
     /// How many bytes it has in an image.
@@ -268,13 +301,13 @@ pub fn chip_of(block: &Block) -> Chip {
             display_on: flag(55),
             power_save: flag(56),
             oscillator_enabled: flag(57),
-            supply_millivolts: block[SUPPLY] as u16,
+            supply_millivolts: SUPPLY.get(block) as u16,
             temperature_millicelsius: signed(block[60]),
-            waiting: flag(READY),
+            waiting: flag(READY.0),
         },
         scan: Scan {
-            clock: flag(CLOCK).then(|| parts(&clock)),
-            rate: (block[9], block[10]),
+            clock: flag(CLOCK.0).then(|| parts(&clock)),
+            rate: rate(block),
             duty: byte(14),
             icon: flag(15),
             initial_com: byte(16),
@@ -289,7 +322,7 @@ pub fn chip_of(block: &Block) -> Chip {
             inversion_count: byte(25),
             inverted: flag(26),
             segments: [block[11], block[12]],
-            latched: flag(13),
+            latched: flag(LATCHED.0),
         },
     }
 }

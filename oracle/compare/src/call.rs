@@ -4,12 +4,10 @@ use crate::{
     block::{block_of, chip_of, Block},
     chip::scan_of,
     compare_scan::{drive_words, level},
-    ffi::words,
-    ffi_controller::{self, LentMut},
-    ffi_scan::Lent,
     paper::target_at,
     paper_scan,
 };
+use nt7508::words::{controller, words, Lent, LentMut};
 use original::{
     ask::controller::{Controller, PIXELS},
     signals::Event,
@@ -290,7 +288,7 @@ impl Ours {
                     ram: &mut self.ram,
                     icons: &mut self.icons,
                 };
-                let number = ffi_controller::rising(&mut self.block, bit, now, lent, &mut event);
+                let number = controller::rising(&mut self.block, bit, now, lent, &mut event);
                 Answer::of(number, &event)
             }
             Call::Group { bits, count } => {
@@ -299,17 +297,16 @@ impl Ours {
                     icons: &mut self.icons,
                 };
                 let group = (bits, count);
-                let number =
-                    ffi_controller::shift_in(&mut self.block, group, now, lent, &mut event);
+                let number = controller::shift_in(&mut self.block, group, now, lent, &mut event);
                 Answer::of(number, &event)
             }
-            Call::Select(on) => Answer::of(ffi_controller::select(&mut self.block, on), &[]),
-            Call::Data(on) => Answer::of(ffi_controller::command_data(&mut self.block, on), &[]),
+            Call::Select(on) => Answer::of(controller::select(&mut self.block, on), &[]),
+            Call::Data(on) => Answer::of(controller::command_data(&mut self.block, on), &[]),
             Call::Supply(rail) => {
-                Answer::of(ffi_controller::set_supply(&mut self.block, rail, now), &[])
+                Answer::of(controller::set_supply(&mut self.block, rail, now), &[])
             }
             Call::Temperature(millicelsius) => Answer::of(
-                ffi_controller::set_temperature(&mut self.block, millicelsius),
+                controller::set_temperature(&mut self.block, millicelsius),
                 &[],
             ),
             Call::Lose => {
@@ -317,42 +314,39 @@ impl Ours {
                     ram: &mut self.ram,
                     icons: &mut self.icons,
                 };
-                Answer::of(ffi_controller::lose_volatile(&mut self.block, lent), &[])
+                Answer::of(controller::lose_volatile(&mut self.block, lent), &[])
             }
-            Call::AtDeadline => Answer::of(ffi_controller::at_deadline(&mut self.block, now), &[]),
+            Call::AtDeadline => Answer::of(controller::at_deadline(&mut self.block, now), &[]),
             Call::Update => {
                 let mut pieces = OLD as u8;
-                let number = ffi_controller::update(&mut self.block, now, &mut pieces);
+                let number = controller::update(&mut self.block, now, &mut pieces);
                 Answer::of(number, &[u64::from(pieces)])
             }
-            Call::Restore => Answer::of(ffi_controller::restore(&mut self.block, now, lent), &[]),
+            Call::Restore => Answer::of(controller::restore(&mut self.block, now, lent), &[]),
             Call::Drive => {
                 let (mut out, mut frame) = ([OLD; 12], OLD as u16);
-                let number = ffi_controller::drive(&self.block, now, lent, &mut out, &mut frame);
+                let number = controller::drive(&self.block, now, lent, &mut out, &mut frame);
                 let mut words = [u64::from(frame); 13];
                 words[..12].copy_from_slice(&out);
                 Answer::of(number, &words)
             }
-            Call::Render => Answer::of(
-                ffi_controller::render(&self.block, lent, &mut self.image),
-                &[],
-            ),
+            Call::Render => Answer::of(controller::render(&self.block, lent, &mut self.image), &[]),
             Call::Voltages => {
                 let mut out = [OLD; 7];
-                Answer::of(ffi_controller::voltages(&self.block, &mut out), &out)
+                Answer::of(controller::voltages(&self.block, &mut out), &out)
             }
             Call::Edges(high) => {
                 let mut out = OLD as u8;
-                let number = ffi_controller::serial_effect_edges(&self.block, high, &mut out);
+                let number = controller::serial_effect_edges(&self.block, high, &mut out);
                 Answer::of(number, &[u64::from(out)])
             }
             Call::Deadline => {
                 let mut out = [OLD; 3];
-                Answer::of(ffi_controller::deadline(&self.block, &mut out), &out)
+                Answer::of(controller::deadline(&self.block, &mut out), &out)
             }
             Call::Find(low, high) => {
                 let mut out = [OLD; 3];
-                let number = ffi_controller::find_setting(&self.block, (low, high), &mut out);
+                let number = controller::find_setting(&self.block, (low, high), &mut out);
                 Answer::of(number, &[self.judged(out, (low, high))])
             }
         }

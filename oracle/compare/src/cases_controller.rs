@@ -130,7 +130,7 @@ pub fn controller(seed: u64, count: u64) -> bool {
             now: random.pick(&[0, micros(1), END / 2]),
             wild: random.one_in(4),
         };
-        if block[CLOCK] == 1 {
+        if CLOCK.get(&block) == 1 {
             pace.now = valid::moment(&mut random, &chip_of(&block));
         }
         for _ in 0..LENGTH {

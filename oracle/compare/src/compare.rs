@@ -1,7 +1,7 @@
 //! Asks both sides the same questions, counts them, and shows the first
 //! difference of each function as the smallest input that shrinking finds. A
 //! panic of either side is a difference.
-use crate::{question::Question, shrink, side::Named};
+use crate::{question::Question, shrink, side::Named, total};
 use original::ask::caught;
 use std::{cell::RefCell, collections::BTreeMap};
 
@@ -103,6 +103,7 @@ impl<A: Named, B: Named> Compare<A, B> {
         for (function, report) in &self.differs {
             println!("DIFFERENCE in {function}: {report}");
         }
+        total::add(compared);
         if compared == 0 {
             println!("NOTHING WAS COMPARED");
         }

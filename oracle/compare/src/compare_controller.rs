@@ -4,8 +4,8 @@
 //! call gives, every field of the state, RAM and icons.
 use crate::{
     block::{
-        block, chip_of, fits, show, state, Block, BITS, COLD, PENDING, READY, SELECTED, SHIFT,
-        SUPPLIED, SUPPLY, WORDS,
+        block, chip_of, fits, rate, show, state, Block, Place, BITS, CLOCK, COLD, LATCHED, PENDING,
+        READY, SELECTED, SHIFT, SUPPLIED, SUPPLY, WORDS,
     },
     call::{Answer, Call, Ours, Step, Theirs},
     lists::{self, awaiting, Pace, Start},
@@ -13,7 +13,7 @@ use crate::{
     random::Random,
     shrink,
     side::END,
-    valid,
+    total, valid,
 };
 use original::ask::{caught, clock::micros, controller::Controller};
 use std::collections::BTreeMap;
@@ -85,28 +85,31 @@ impl Tally {
             came("data events", answer.words[0] == 1);
             came("command events", answer.words[0] == 2);
             came("parameters", answer.words[4] == 1);
-            let waits = before[PENDING] == 0 && after[PENDING] == 1;
-            came("bytes that await a parameter", waits);
-            came("rates of the scan changed", before[9..11] != after[9..11]);
-            came("clocks begun", before[0] == 0 && after[0] == 1);
-            came("clocks dropped", before[0] == 1 && after[0] == 0);
+            let set = |place: Place| (place.get(before), place.get(after));
+            came("bytes that await a parameter", set(PENDING) == (0, 1));
+            came("rates of the scan changed", rate(before) != rate(after));
+            came("clocks begun", set(CLOCK) == (0, 1));
+            came("clocks dropped", set(CLOCK) == (1, 0));
+            let (from, to) = (CLOCK.time(before), CLOCK.time(after));
             came(
                 "scans counted",
-                before[0] == 1 && before[1..3] != after[1..3],
+                from.is_some() && to.is_some() && from != to,
             );
-            came("latches kept", before[13] == 0 && after[13] == 1);
+            came("latches kept", set(LATCHED) == (0, 1));
         }
-        let (was, is) = (before[SUPPLIED], after[SUPPLIED]);
-        let cold = before[COLD] == 1 || matches!(step.call, Call::Supply(0));
+        let (was, is) = (SUPPLIED.get(before), SUPPLIED.get(after));
+        let cold = COLD.get(before) == 1 || matches!(step.call, Call::Supply(0));
         came("falls of the supply", (was, is) == (1, 0));
         came("cold rises", (was, is, cold) == (0, 1, true));
         came("warm rises", (was, is, cold) == (0, 1, false));
-        let ended = step.call == Call::AtDeadline && before[READY] == 1 && after[READY] == 0;
+        let waits = (READY.get(before), READY.get(after));
+        let ended = step.call == Call::AtDeadline && waits == (1, 0);
         came("waits ended", ended);
         came("restores refused as 6", answer.number == 6);
     }
     fn print(&self) {
         let calls: u64 = self.calls.values().sum();
+        total::add(calls);
         for (name, count) in &self.calls {
             println!("original = ours: {name}: {count} calls compared");
         }
@@ -221,7 +224,7 @@ fn list(random: &mut Random, tally: &mut Tally, start: &Start, length: u64) -> b
         now: random.pick(&[0, micros(1), END / 2, END - (1 << 80)]),
         wild: random.one_in(4),
     };
-    if start.block[0] == 1 {
+    if CLOCK.get(&start.block) == 1 {
         pace.now = valid::moment(random, &chip_of(&start.block));
     }
     let mut left = length;
@@ -234,11 +237,11 @@ fn list(random: &mut Random, tally: &mut Tally, start: &Start, length: u64) -> b
 /// A state that takes bits.
 fn taking(random: &mut Random) -> Start {
     let mut start = lists::free(random);
-    start.block[SELECTED] = 1;
-    start.block[READY..READY + 3].fill(0);
-    if start.block[SUPPLIED] == 0 {
-        start.block[SUPPLIED] = 1;
-        start.block[SUPPLY] = 3000;
+    SELECTED.put(&mut start.block, 1);
+    READY.put_option::<2>(&mut start.block, None);
+    if SUPPLIED.get(&start.block) == 0 {
+        SUPPLIED.put(&mut start.block, 1);
+        SUPPLY.put(&mut start.block, 3000);
     }
     start
 }
@@ -251,10 +254,9 @@ fn bytes(random: &mut Random, tally: &mut Tally) -> bool {
     pending.iter().all(|pending| {
         (0..=255).all(|byte| {
             let mut start = taking(random);
-            start.block[BITS] = 0;
-            start.block[SHIFT] = 0;
-            start.block[PENDING] = u64::from(pending.is_some());
-            start.block[PENDING + 1] = pending.map_or(0, u64::from);
+            BITS.put(&mut start.block, 0);
+            SHIFT.put(&mut start.block, 0);
+            PENDING.put_option(&mut start.block, pending.map(|byte| [u64::from(byte)]));
             let now = valid::moment(random, &chip_of(&start.block));
             let call = Call::Group {
                 bits: byte,
@@ -272,7 +274,7 @@ fn groups(random: &mut Random, tally: &mut Tally) -> bool {
         (0..=8).all(|count: u8| {
             (0..1u16 << count).all(|bits| {
                 let mut start = taking(random);
-                start.block[BITS] = held;
+                BITS.put(&mut start.block, held);
                 let now = valid::moment(random, &chip_of(&start.block));
                 let call = Call::Group {
                     bits: bits as u8,

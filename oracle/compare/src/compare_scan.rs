@@ -12,7 +12,7 @@ use crate::{
     shrink,
     side::END,
     state::{reached, started},
-    valid,
+    total, valid,
 };
 use original::{
     ask::{
@@ -260,6 +260,7 @@ impl Tally {
         for (name, count) in &self.counts {
             println!("original = ours: {name}: {count} inputs compared");
         }
+        total::add(self.counts.values().sum());
         println!("states counted in 0 to 4 pieces: {:?}", self.pieces);
     }
 }

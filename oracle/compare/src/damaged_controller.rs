@@ -6,12 +6,13 @@
 use crate::{
     block::{chip_of, limits, Block, CLOCK, READY, WORDS},
     call::{refused, Call, Ours, Step},
-    ffi_controller, lists,
+    lists,
     paper_controller::checks,
     random::Random,
     side::END,
-    valid,
+    total, valid,
 };
+use nt7508::words::controller;
 use original::ask::controller::Controller;
 use std::collections::BTreeMap;
 
@@ -123,7 +124,7 @@ fn new(random: &mut Random) -> bool {
     (0..200).all(|length| {
         let before: Vec<u64> = (0..length).map(|_| random.next()).collect();
         let mut after = before.clone();
-        let number = ffi_controller::new(&mut after);
+        let number = controller::new(&mut after);
         if length == WORDS {
             (number, &after[..]) == (0, &power_on[..])
         } else {
@@ -156,6 +157,7 @@ pub fn run(random: &mut Random, count: u64) -> bool {
                 .iter()
                 .all(|call| one(&lent, &Step { now, call: *call }, &mut counts));
     }
+    total::add(counts.values().sum());
     for call in calls(random) {
         let of_call = counts.iter().filter(|((name, _), _)| *name == call.name());
         let words: Vec<String> = of_call

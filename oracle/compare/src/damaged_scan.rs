@@ -9,7 +9,7 @@ use crate::{
     paper_checks,
     random::Random,
     side::END,
-    valid,
+    total, valid,
 };
 use std::collections::BTreeMap;
 
@@ -165,6 +165,7 @@ pub fn run(random: &mut Random, count: u64) -> bool {
             *counts.entry((call, wanted)).or_default() += 1;
         }
     }
+    total::add(counts.values().sum());
     for call in CALLS {
         let of_call = counts.iter().filter(|((name, _), _)| *name == call);
         let words: Vec<String> = of_call

@@ -2,11 +2,11 @@
 //! table, each field free within its range, and calls that go on from a state.
 use crate::{
     block::{
-        block, chip_of, Block, BITS, CLOCK, COLD, COLUMN, DATA, PAGE, PENDING, READY, SAVED,
+        block, chip_of, Block, Place, BITS, CLOCK, COLD, COLUMN, DATA, PAGE, PENDING, READY, SAVED,
         SELECTED, SHIFT, SUPPLIED, SUPPLY,
     },
     call::{Call, Step},
-    ffi::{wide, words},
+    ffi::words,
     paper_controller::awaits,
     random::Random,
     side::END,
@@ -28,42 +28,38 @@ pub fn awaiting() -> Vec<u8> {
     (0..=255).filter(|byte| awaits(u64::from(*byte))).collect()
 }
 
-fn put_option(block: &mut Block, place: usize, value: &[u64]) {
-    let last = place + value.len();
-    block[place] = 1;
-    block[place + 1..=last].copy_from_slice(value);
-}
-
 /// Any state that passes the checks.
 pub fn free(random: &mut Random) -> Start {
     let chip = valid::chip(random);
     let (ram, icons) = valid::memory(random);
     let mut block = block(&chip.state(&[0; 4096], &[0; 256]));
-    block[SELECTED] = u64::from(!random.one_in(8));
-    block[DATA] = u64::from(random.one_in(3));
-    block[BITS] = random.below(8);
+    SELECTED.put(&mut block, u64::from(!random.one_in(8)));
+    DATA.put(&mut block, u64::from(random.one_in(3)));
+    BITS.put(&mut block, random.below(8));
     // Bits that no call leaves there are taken as the original takes them.
-    block[SHIFT] = match random.below(3) {
+    let shift = match random.below(3) {
         0 => random.below(256),
-        _ => random.below(1 << block[BITS]),
+        _ => random.below(1 << BITS.get(&block)),
     };
+    SHIFT.put(&mut block, shift);
     if random.one_in(3) {
-        put_option(&mut block, PENDING, &[u64::from(random.pick(&awaiting()))]);
+        PENDING.put_option(&mut block, Some([u64::from(random.pick(&awaiting()))]));
     }
-    block[PAGE] = random.below(17);
+    PAGE.put(&mut block, random.below(17));
     let column = random.below(256);
-    block[COLUMN] = random.pick(&[column, column, 254, 255]);
+    COLUMN.put(&mut block, random.pick(&[column, column, 254, 255]));
     if random.one_in(2) {
-        put_option(&mut block, SAVED, &[random.below(256)]);
+        SAVED.put_option(&mut block, Some([random.below(256)]));
     }
     if random.one_in(8) {
-        block[SUPPLY] = random.pick(&[0, 1, 1649, 1650]);
+        SUPPLY.put(&mut block, random.pick(&[0, 1, 1649, 1650]));
     }
-    block[SUPPLIED] = u64::from(block[SUPPLY] >= 1650);
-    block[COLD] = u64::from(random.one_in(2));
-    if block[READY] != 0 {
+    let supplied = SUPPLY.get(&block) >= 1650;
+    SUPPLIED.put(&mut block, u64::from(supplied));
+    COLD.put(&mut block, u64::from(random.one_in(2)));
+    if READY.get(&block) != 0 {
         let end = valid::moment(random, &chip);
-        put_option(&mut block, READY, &words(end));
+        READY.put_option(&mut block, Some(words(end)));
     }
     Start { block, ram, icons }
 }
@@ -129,19 +125,19 @@ fn any_call(random: &mut Random, block: &Block) -> Call {
             Call::Find(low, low + random.spread(1 << 20) as u32)
         }
         27..=33 => Call::Rising(random.one_in(2)),
-        _ => bits(random, block[BITS]),
+        _ => bits(random, BITS.get(block)),
     }
 }
 
 /// What lets bits be taken again, where they are not.
 fn reviving(random: &mut Random, block: &Block) -> Option<Call> {
-    if block[SUPPLIED] == 0 {
+    if SUPPLIED.get(block) == 0 {
         return Some(Call::Supply(random.pick(&[1650, 2400, 3000])));
     }
-    if block[READY] != 0 {
+    if READY.get(block) != 0 {
         return Some(Call::AtDeadline);
     }
-    (block[SELECTED] == 0).then_some(Call::Select(true))
+    (SELECTED.get(block) == 0).then_some(Call::Select(true))
 }
 
 /// How the moments of a list go: close together, or anywhere.
@@ -172,12 +168,10 @@ fn moment(random: &mut Random, block: &Block, pace: &Pace) -> u128 {
 
 /// A moment that matters: the end of the wait, the scan's last edge, or one unit
 /// about either; or another.
-pub fn due(random: &mut Random, block: &Block, other: u128, places: &[usize]) -> u128 {
-    let place = random.pick(places);
-    let at = wide(block[place + 1], block[place + 2]);
-    if block[place] == 0 || at >= END {
+pub fn due(random: &mut Random, block: &Block, other: u128, places: &[Place]) -> u128 {
+    let Some(at) = random.pick(places).time(block).filter(|at| *at < END) else {
         return other;
-    }
+    };
     let about = [at, at, (at + 1).min(END - 1), at.saturating_sub(1), other];
     random.pick(&about)
 }

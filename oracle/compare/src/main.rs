@@ -11,13 +11,13 @@ mod clock;
 mod compare;
 mod compare_controller;
 mod compare_scan;
+mod compare_session;
 mod damaged;
 mod damaged_controller;
 mod damaged_scan;
 mod differences;
 mod differences_controller;
 mod ffi;
-mod ffi_controller;
 mod ffi_scan;
 mod findings;
 mod fuzz;
@@ -34,11 +34,14 @@ mod question;
 mod random;
 mod rates;
 mod selfcheck;
+mod session;
 mod shrink;
 mod side;
 mod speed;
 mod state;
 mod strike;
+mod texts;
+mod total;
 mod valid;
 mod voltage;
 
@@ -57,6 +60,7 @@ compare controller ours [COUNT]         the controller: COUNT lists of 50 calls 
                                         every awaited command, every group of bits
 compare strike [COUNT]                  demand 3: COUNT lists (200000), whole and with updates and empty
                                         commands struck
+compare session [COUNT]                 the session program: COUNT random and damaged texts (100000)
 compare differences                     where ours is meant to answer otherwise than the original
 The original alone:
 compare selfcheck                       show that the oracle answers as document 01 says
@@ -88,6 +92,9 @@ const LISTS: u64 = 240_000;
 /// Lists with something struck.
 const STRUCK: u64 = 200_000;
 
+/// Texts of sessions.
+const TEXTS: u64 = 100_000;
+
 /// The words of the command without `--seed N`, and the seed.
 fn words() -> Option<(Vec<String>, u64)> {
     let (mut words, mut seed) = (Vec::new(), SEED);
@@ -105,10 +112,12 @@ fn words() -> Option<(Vec<String>, u64)> {
 /// A panic that no comparison caught is one of the driver's own, and said.
 fn main() -> ExitCode {
     original::ask::quiet_panics();
-    original::ask::caught(command).unwrap_or_else(|words| {
+    let code = original::ask::caught(command).unwrap_or_else(|words| {
         println!("THE DRIVER ITSELF PANICS: {words}");
         ExitCode::FAILURE
-    })
+    });
+    total::print();
+    code
 }
 
 /// Does what the words of the command say.
@@ -130,6 +139,17 @@ fn command() -> ExitCode {
         },
         ("strike", count, _) => match number(count) {
             Ok(count) => code(strike::run_all(seed, count.unwrap_or(STRUCK))),
+            Err(_) => usage(),
+        },
+        ("session", count, _) => match number(count) {
+            Ok(count) => {
+                println!("seed {seed}");
+                let mut random = Random::new(seed);
+                code(compare_session::run_all(
+                    &mut random,
+                    count.unwrap_or(TEXTS),
+                ))
+            }
             Err(_) => usage(),
         },
         ("cases", Some("clock"), Ok(count)) => code(cases::clock(seed, count.unwrap_or(2000))),

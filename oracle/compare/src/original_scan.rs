@@ -76,6 +76,7 @@ pub fn run(random: &mut Random, count: u64) -> bool {
             "original = paper: {what}: {compared} inputs compared ({moved} with a moved scan)"
         );
     }
+    crate::total::add(3 * compared);
     println!("the most pieces that the piece rule gave: {most}");
     most <= 4
 }

@@ -1,10 +1,11 @@
-//! Our proved library as a side of a comparison, by the calls of `ffi.rs`.
+//! Our proved library as a side of a comparison.
 use crate::{
     any::{Checked, Pair, Refused},
-    ffi::{self, clock_words, parts, wide, words},
+    ffi::{self, clock_words, parts, wide},
     paper,
     side::{ClockState, Named, Side},
 };
+use nt7508::words::{clock, voltage};
 use original::{
     ask::{clock::Parts, voltage::Question},
     devices::nt7508::LcdVoltages,
@@ -44,40 +45,40 @@ impl Named for Ours {
 impl Checked for Ours {
     fn try_new(&mut self, at: u128, p: u64, q: u64) -> Refused<Parts> {
         let mut out = [LENT; 8];
-        let number = ffi::new_clock(words(at), p, q, &mut out);
+        let number = clock::new(at, p, q, &mut out);
         answer(number, out, [LENT; 8], |out| parts(&out))
     }
-    fn try_check(&mut self, clock: &Parts, p: u64, q: u64) -> Refused<()> {
-        let number = ffi::check_clock(&clock_words(clock), p, q);
+    fn try_check(&mut self, parts: &Parts, p: u64, q: u64) -> Refused<()> {
+        let number = clock::check(&clock_words(parts), p, q);
         answer(number, (), (), |()| ())
     }
-    fn try_edges(&mut self, clock: &Parts, p: u64, q: u64, now: u128) -> Refused<u64> {
+    fn try_edges(&mut self, parts: &Parts, p: u64, q: u64, now: u128) -> Refused<u64> {
         let mut out = LENT;
-        let number = ffi::edges_to(&clock_words(clock), p, q, words(now), &mut out);
+        let number = clock::edges_to(&clock_words(parts), p, q, now, &mut out);
         answer(number, out, LENT, |out| out)
     }
-    fn try_move(&mut self, clock: &Parts, p: u64, q: u64, edges: u64) -> Refused<Parts> {
-        let before = clock_words(clock);
+    fn try_move(&mut self, given: &Parts, p: u64, q: u64, edges: u64) -> Refused<Parts> {
+        let before = clock_words(given);
         let mut moved = before;
-        let number = ffi::move_clock(&mut moved, p, q, edges);
+        let number = clock::moved(&mut moved, p, q, edges);
         answer(number, moved, before, |moved| parts(&moved))
     }
     fn try_pass(
         &mut self,
-        clock: &Parts,
+        given: &Parts,
         rate: (u64, u64),
         now: u128,
         limit: u64,
     ) -> Refused<(u64, Parts)> {
-        let before = (LENT, clock_words(clock));
+        let before = (LENT, clock_words(given));
         let (mut count, mut moved) = before;
-        let number = ffi::pass_clock(&mut moved, rate, words(now), limit, &mut count);
+        let number = clock::passed_to(&mut moved, rate, now, limit, &mut count);
         answer(number, (count, moved), before, |(count, moved)| {
             (count, parts(&moved))
         })
     }
     fn try_settings(&mut self, settings: [u8; 8]) -> bool {
-        ffi::settings_valid(&settings)
+        voltage::valid(&settings)
     }
     fn try_voltages(&mut self, question: &Question) -> Refused<LcdVoltages> {
         let mut out = [LENT; 7];
@@ -90,7 +91,7 @@ impl Checked for Ours {
     }
     fn try_find(&mut self, band: (u32, u32), settings: [u8; 8], temperature: i32) -> Refused<Pair> {
         let mut out = [LENT; 3];
-        let number = ffi::find_setting(band, &settings, temperature, &mut out);
+        let number = voltage::find_setting(band, &settings, temperature, &mut out);
         answer(number, out, [LENT; 3], |out| match out {
             [0, 0, 0] => Pair::None,
             [1, regulator @ 0..=7, contrast @ 0..=63] => {
@@ -111,7 +112,7 @@ impl Checked for Ours {
 impl Side for Ours {
     fn micros(&mut self, us: u64) -> u128 {
         let mut out = [LENT; 2];
-        ffi::micros(us, &mut out);
+        clock::micros(us, &mut out);
         wide(out[0], out[1])
     }
     fn new_clock(&mut self, at: u128, p: u64, q: u64) -> Parts {

@@ -2,9 +2,10 @@
 //! number 20, which the C functions add for a block that holds no state.
 use crate::{
     any::Refused,
-    block::{chip_of, fits, Block, BITS, COLUMN, PAGE, PENDING, READY, SAVED, SUPPLIED, SUPPLY},
+    block::{
+        chip_of, fits, Block, BITS, CLOCK, COLUMN, PAGE, PENDING, READY, SAVED, SUPPLIED, SUPPLY,
+    },
     call::{Call, Ours, Step},
-    ffi::wide,
     paper_checks::{display, scan, settings, time},
 };
 
@@ -20,12 +21,14 @@ fn row(number: u64, good: bool) -> Refused<()> {
 /// Numbers 3, 4 and 5.
 pub fn state(block: &Block) -> Refused<()> {
     let chip = chip_of(block);
-    let good = block[BITS] < 8
-        && (block[PENDING] == 0 || awaits(block[PENDING + 1]))
-        && block[PAGE] <= 16
-        && block[COLUMN] < 256
-        && (block[SAVED] == 0 || block[SAVED + 1] < 256)
-        && block[SUPPLIED] == u64::from(block[SUPPLY] >= 1650);
+    let awaited = |[byte]: [u64; 1]| awaits(byte);
+    let column = |[column]: [u64; 1]| column < 256;
+    let good = BITS.get(block) < 8
+        && PENDING.option(block).is_none_or(awaited)
+        && PAGE.get(block) <= 16
+        && COLUMN.get(block) < 256
+        && SAVED.option(block).is_none_or(column)
+        && SUPPLIED.get(block) == u64::from(SUPPLY.get(block) >= 1650);
     row(3, good)?;
     display(&chip.display)?;
     settings(chip.analog.bytes())?;
@@ -34,8 +37,8 @@ pub fn state(block: &Block) -> Refused<()> {
 
 /// Number 6.
 fn restored(block: &Block, now: u128) -> Refused<()> {
-    let clock = block[0] == 0 || wide(block[1], block[2]) <= now;
-    let ready = block[READY] == 0 || wide(block[READY + 1], block[READY + 2]) >= now;
+    let clock = CLOCK.time(block).is_none_or(|at| at <= now);
+    let ready = READY.time(block).is_none_or(|end| end >= now);
     row(6, clock && ready)
 }
 

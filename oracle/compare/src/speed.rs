@@ -3,18 +3,18 @@
 //! of what a call changes, so that only the calls are timed. Answers are shown
 //! to the compiler where they stand: a copy of them would be timed too.
 use crate::{
-    block::{block, Block},
+    block::{block, Block, CLOCK},
     chip::Chip,
     chip_words::ChipWords,
     clock::{random_clock, random_edges, random_moment},
-    ffi::{self, clock_words, words},
-    ffi_controller::{self, LentMut},
-    ffi_scan::{self, Lent},
+    ffi::{self, clock_words},
+    ffi_scan,
     random::Random,
     side::{ClockState, END},
     valid,
     voltage::{cornered, random_settings, temperatures},
 };
+use nt7508::words::{clock as our_clock, controller, Lent, LentMut};
 use original::ask::{
     clock,
     controller::{Controller, PIXELS},
@@ -117,7 +117,7 @@ fn clocks(random: &mut Random) {
             black_box(&clock::micros(*us));
         }),
         timed(&micros, |us| {
-            ffi::micros(*us, &mut out);
+            our_clock::micros(*us, &mut out);
             black_box(&out);
         }),
     );
@@ -129,7 +129,7 @@ fn clocks(random: &mut Random) {
             black_box(&clock::new(at.at, at.p, at.q));
         }),
         timed(&states, |at| {
-            black_box(ffi::new_clock(words(at.at), at.p, at.q, &mut out));
+            black_box(our_clock::new(at.at, at.p, at.q, &mut out));
             black_box(&out);
         }),
     );
@@ -149,7 +149,7 @@ fn clocks(random: &mut Random) {
             black_box(clock::edges_to(clock, *now));
         }),
         timed(&edges, |(at, _, clock, now, _)| {
-            black_box(ffi::edges_to(clock, at.p, at.q, words(*now), &mut count));
+            black_box(our_clock::edges_to(clock, at.p, at.q, *now, &mut count));
             black_box(&count);
         }),
     );
@@ -166,7 +166,7 @@ fn clocks(random: &mut Random) {
             &edges,
             |(_, _, clock, ..)| *clock,
             |(at, _, _, _, edges), clock| {
-                black_box(ffi::move_clock(clock, at.p, at.q, *edges));
+                black_box(our_clock::moved(clock, at.p, at.q, *edges));
             },
         ),
     );
@@ -387,7 +387,7 @@ impl Held {
             ram: &mut self.ram,
             icons: &mut self.icons,
         };
-        ffi_controller::shift_in(&mut self.block, (byte, 8), now, lent, event)
+        controller::shift_in(&mut self.block, (byte, 8), now, lent, event)
     }
 }
 
@@ -449,7 +449,7 @@ fn bytes() {
                 black_box(&event);
             }),
         );
-        assert!(ours.block[0] == 1, "a scan that runs");
+        assert!(CLOCK.get(&ours.block) == 1, "a scan that runs");
     }
 }
 
@@ -468,7 +468,7 @@ fn controllers(random: &mut Random) {
         }),
         timed(&all, |(held, at)| {
             let lent = held.lent();
-            let number = ffi_controller::drive(&held.block, at.now, lent, &mut out, &mut frame);
+            let number = controller::drive(&held.block, at.now, lent, &mut out, &mut frame);
             black_box(number);
             black_box((&out, &frame));
         }),
@@ -481,7 +481,7 @@ fn controllers(random: &mut Random) {
             black_box(&pixels);
         }),
         timed(&all, |(held, _)| {
-            black_box(ffi_controller::render(&held.block, held.lent(), &mut ours));
+            black_box(controller::render(&held.block, held.lent(), &mut ours));
             black_box(&ours);
         }),
     );
@@ -493,10 +493,7 @@ fn controllers(random: &mut Random) {
             black_box(&mut original).command_data(number % 2 == 0);
         }),
         timed_on(|number| {
-            black_box(ffi_controller::command_data(
-                &mut ours.block,
-                number % 2 == 0,
-            ));
+            black_box(controller::command_data(&mut ours.block, number % 2 == 0));
         }),
     );
 }

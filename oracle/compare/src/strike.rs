@@ -5,14 +5,16 @@
 use crate::{
     block::{state, Block, WORDS},
     call::{Answer, Call, Ours, Step, Theirs},
-    ffi_controller, ffi_scan,
+    ffi_scan,
     line::{allowed, bytes, group, left, never_fall, whole_group, Byte, Line, Marked},
     marked::{self, Given, Maker, Unit},
     paper_controller::awaits,
     random::Random,
     shrink,
     side::END,
+    total,
 };
+use nt7508::words::controller;
 use original::ask::caught;
 use std::collections::BTreeMap;
 
@@ -96,7 +98,7 @@ fn run(given: &Given, mut next: impl FnMut(&Block) -> Option<Step>) -> Result<Ru
         icons: given.icons.clone(),
         image: vec![0x5a; given.pixels],
     };
-    ffi_controller::new(&mut ours.block);
+    controller::new(&mut ours.block);
     let block = |ours: &Ours| -> Block { ours.block[..].try_into().expect("a block") };
     let mut theirs = (given.original && given.memory())
         .then(|| Theirs::new(state(&block(&ours), &given.ram, &given.icons)));
@@ -365,7 +367,9 @@ pub fn run_all(seed: u64, count: u64) -> bool {
         one(&mut random, &mut tally)
     });
     tally.print();
-    good && tally.of("replies compared") != 0
+    let compared = tally.of("replies compared");
+    total::add(compared);
+    good && compared != 0
 }
 
 /// The driver itself: what may not be struck must be found when it is, and so must
