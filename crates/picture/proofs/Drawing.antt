@@ -100,10 +100,13 @@ drawn-fits text = let r = runOf text (start (zeros 4096) (zeros 256)) in go (r .
     go (some at) m = omega (arith, refusal-few (some at))
 
 pub put-drawn : (text out : List ℕ) → length out ≡ 6157 → put (out, 0) (drawn text) ≡ written out (drawn text)
+unfolding written
 put-drawn text out h =
     let all = drawn text in
     put-whole all out 0 (omega (arith, drawn-fits text)) ∙ (λ i. (all ++ drop (zero-add (length all) i) out, zero-add (length all) i))
 
 -- what was written lies within the lent bytes
-pub written-fits : (text out : List ℕ) {out′ : List ℕ} {count : ℕ} → _≡_ {A = List ℕ × ℕ} (out′, count) (written out (drawn text)) → count ≤ 6157
-written-fits text out e = omega (arith, drawn-fits text, ap (λ (p : List ℕ × ℕ). p .1) e)
+pub written-fits : (out bytes : List ℕ) {out′ : List ℕ} {count : ℕ} → _≡_ {A = List ℕ × ℕ} (out′, count) (written out bytes) → count ≤ length out′
+unfolding written
+written-fits out bytes e =
+    omega (arith, ap (λ (p : List ℕ × ℕ). p .1) e, ap (λ (p : List ℕ × ℕ). length (p .0)) e, length-append bytes (drop (length bytes) out))

@@ -34,5 +34,5 @@ unfoldable pub drawn : (text : List ℕ) → List ℕ
 drawn text = let r = runOf text (start (zeros 4096) (zeros 256)) in shownAt (r .refusal) (r .machine)
 
 -- bytes written at the start of lent ones, the others as they were, and how many were written
-abbrev pub written : (out bytes : List ℕ) → List ℕ × ℕ
+unfoldable pub written : (out bytes : List ℕ) → List ℕ × ℕ
 written out bytes = (bytes ++ drop (length bytes) out, length bytes)

@@ -7,10 +7,12 @@ use Rattle.picture_main.proofs.main.Statement.{statement}
 use Rattle.picture_main.proofs.main.Tie as tie
 
 array-share-prefix-out : tie.Need-array-share-prefix-out
-array-share-prefix-out c = ?
+array-share-prefix-out c = written-fits _ _ (c .draw .ensures)
 
 slice-aggregate-write-all : tie.Need-slice-aggregate-write-all
-slice-aggregate-write-all c = ?
+slice-aggregate-write-all c =
+    let drew = c .before .draw in
+    sym (length-take-le (drew .result) (drew .last .1 .0) (written-fits _ _ (drew .ensures)))
 
 pub main-spec : {M : Type 1} → statement M
 main-spec =
