@@ -17,16 +17,15 @@ use Rattle.controller.specs.declared.check.Check.{Check}
 use Rattle.controller.specs.declared.state.Nt7508.{Nt7508}
 use Rattle.controller.specs.Check.{checkState, checkImage}
 use Rattle.controller.specs.Byte.{conditionsOf}
-use Rattle.controller.specs.Supply.{zeros}
 use Rattle.controller.specs.Look.{painted, renderOf}
 use Rattle.controller.proofs.Checks.{image-alone}
-use Rattle.strike.specs.Calls.{Machine, start}
+use Rattle.strike.specs.Calls.{Machine}
 use Rattle.decimal.specs.Print.{putByte, put}
 use Rattle.decimal.proofs.Printing.{put-append, put-whole}
 use Rattle.session.specs.Listing.{refusalLine, refusalText}
 use Rattle.session.specs.Session.{runOf}
 use Rattle.session.proofs.Lengths.{refusal-few}
-use Rattle.picture.specs.Picture.{head, grayOf, pictureOf, shownAt, drawn, written}
+use Rattle.picture.specs.Picture.{head, grayOf, pictureOf, shownAt, fresh, drawn, written}
 
 -- the pixels from i on
 module _ (p : List ℕ × ℕ) (image : List ℕ) (i : ℕ) where
@@ -76,11 +75,11 @@ module _ (m : Machine) where
 
 -- what a text draws, by where it ends
 module _ (text : List ℕ) where
-  pub drawn-refused : (number line : ℕ) → runOf text (start (zeros 4096) (zeros 256)) .refusal ≡ some (number, line) → refusalLine number line ≡ drawn text
+  pub drawn-refused : (number line : ℕ) → runOf text fresh .refusal ≡ some (number, line) → refusalLine number line ≡ drawn text
   unfolding drawn
   drawn-refused number line h = rw h
 
-  pub drawn-whole : runOf text (start (zeros 4096) (zeros 256)) .refusal ≡ none → pictureOf (runOf text (start (zeros 4096) (zeros 256)) .machine) ≡ drawn text
+  pub drawn-whole : runOf text fresh .refusal ≡ none → pictureOf (runOf text fresh .machine) ≡ drawn text
   unfolding drawn
   drawn-whole h = rw h
 
@@ -88,12 +87,14 @@ module _ (text : List ℕ) where
 picture-length : (m : Machine) → length (pictureOf m) ≡ 6157
 unfolding pictureOf
 picture-length m =
+    let s = m .state .display in
     let d = driven (conditionsOf (m .state .power)) in
-    rw (length-append head (map grayOf (image (m .state .display) d (m .ram))), length-map (image (m .state .display) d (m .ram)) grayOf, length-image (m .state .display) d (m .ram))
+    let panel = image s d (m .ram) in
+    rw (length-append head (map grayOf panel), length-map panel grayOf, length-image s d (m .ram))
 
 pub drawn-fits : (text : List ℕ) → length (drawn text) ≤ 6157
 unfolding drawn refusalText
-drawn-fits text = let r = runOf text (start (zeros 4096) (zeros 256)) in go (r .refusal) (r .machine)
+drawn-fits text = let r = runOf text fresh in go (r .refusal) (r .machine)
   where
     go : (refusal : Option (ℕ × ℕ)) (m : Machine) → length (shownAt refusal m) ≤ 6157
     go none m = omega (arith, picture-length m)

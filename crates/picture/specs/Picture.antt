@@ -29,9 +29,13 @@ abbrev pub shownAt : (refusal : Option (ℕ × ℕ)) → Machine → List ℕ
 shownAt none m = pictureOf m
 shownAt (some at) m = refusalLine (at .0) (at .1)
 
--- a text from power-on, with memory 0
+-- power-on with memory 0
+abbrev pub fresh : Machine
+fresh = start (zeros 4096) (zeros 256)
+
+-- a text from there
 unfoldable pub drawn : (text : List ℕ) → List ℕ
-drawn text = let r = runOf text (start (zeros 4096) (zeros 256)) in shownAt (r .refusal) (r .machine)
+drawn text = let r = runOf text fresh in shownAt (r .refusal) (r .machine)
 
 -- bytes written at the start of lent ones, the others as they were, and how many were written
 unfoldable pub written : (out bytes : List ℕ) → List ℕ × ℕ

@@ -22,15 +22,17 @@ loop-again c =
     let at-put = c .before .before in
     let at-gray = at-put .before in
     let at-loop = at-gray .before .before .before .before in
+    let l = at-loop .loop in
     let image = at-loop .before .before .before .args .image .now in
-    let i = at-loop .loop .i in
-    let p : List ℕ × ℕ = (at-loop .loop .out, at-loop .loop .next) in
-    (ap (λ (q : List ℕ × ℕ). put q (map grayOf (drop (i + 1) image))) (at-put .put-byte .ensures ∙ ap (putByte p) (at-gray .gray-of .ensures)) ∙ sym (grays-next p image i (search needs)) ∙ at-loop .loop .inv .0, at-put .put-byte .kept .0 ∙ at-loop .loop .inv .1)
+    let p : List ℕ × ℕ = (l .out, l .next) in
+    let one-more = at-put .put-byte .ensures ∙ ap (putByte p) (at-gray .gray-of .ensures) in
+    (ap (λ (q : List ℕ × ℕ). put q (map grayOf (drop (l .i + 1) image))) one-more ∙ sym (grays-next p image (l .i) (search needs)) ∙ l .inv .0, at-put .put-byte .kept .0 ∙ l .inv .1)
 
 returns : tie.Need-returns Inv-loop μ-loop
 returns c =
-    let at-loop = c .before in
-    sym (grays-done (at-loop .loop .out, at-loop .loop .next) (at-loop .before .before .before .args .image .now) (at-loop .loop .i) (search needs)) ∙ at-loop .loop .inv .0
+    let l = c .before .loop in
+    let image = c .before .before .before .before .args .image .now in
+    sym (grays-done (l .out, l .next) image (l .i) (search needs)) ∙ l .inv .0
 
 pub put-grays-spec : {M : Type 1} → statement M
 put-grays-spec =
