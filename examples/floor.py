@@ -1,11 +1,11 @@
 #!/usr/bin/env python3
-"""Writes the session text examples/floor.txt to standard output: a floor plan with numbered joists and
-the load that one of them may carry, as the desk unit shows it. Run it as
+"""Writes the session text examples/floor.txt to standard output: a floor plan with numbered joists
+and the load that one of them may carry, as the desk unit shows it. Run it as
 
     python3 examples/floor.py > examples/floor.txt
 
-The text switches the controller on, sets it up for the 96 by 64 glass, sends the plan page by page, and
-turns the display on. Shades go from 0, nothing, to 3, full drive.
+The text switches the controller on, sets it up for the 96 by 64 glass, sends the plan page by page,
+and turns the display on. Shades go from 0, nothing, to 3, full drive.
 """
 
 WIDTH, HEIGHT = 96, 64
