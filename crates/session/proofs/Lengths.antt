@@ -69,7 +69,7 @@ drive-few us r h =
     rw sum-six
     (omega (arith, field-few (Field.Number us) 32, field-few (commonField (r .common)) 32, inverted-few (r .inverted) 32, field-few (levelField (r .v0)) 32, number-few (r .lit) 32 h, field-few (frameField (r .common) (r .frame)) 10))
 
-refusal-few : (r : Option (ℕ × ℕ)) → length (refusalText r) ≤ 55
+pub refusal-few : (r : Option (ℕ × ℕ)) → length (refusalText r) ≤ 55
 unfolding refusalText refusalLine
 refusal-few none = omega arith
 refusal-few (some at) = rw sum-four (omega (arith, field-few (Field.Number (at .0)) 32, field-few (Field.Number (at .1)) 10))

@@ -119,7 +119,7 @@ pub(crate) fn put_drive(out: &mut [u8], at: usize, us: u64, row: Row) -> usize
 }
 
 // Puts the line of a refusal.
-pub(crate) fn put_refusal(out: &mut [u8], at: usize, number: u64, line: u64) -> usize
+pub fn put_refusal(out: &mut [u8], at: usize, number: u64, line: u64) -> usize
     ensures { λ r. ⌜ (now (out .exit), r) ≡ put (now (out .entry), at) (refusalLine number line) ⌝ }
 {
     let behind_word = put_bytes(out, at, b"refused ");

@@ -245,7 +245,8 @@ fn next_line(
     }
 }
 
-fn number(why: Why) -> u64
+// The number of a refusal.
+pub fn number(why: Why) -> u64
     ensures { λ r. ⌜ r ≡ numberOf why ⌝ }
 {
     match why {

@@ -1,0 +1,2 @@
+-- The picture of the panel.
+pub mod Picture
