@@ -40,7 +40,7 @@ struct Given {
     sum: u64,
 }
 
-fn sum_of_words(words: &[u64]) -> u64 {
+pub(crate) fn sum_of_words(words: &[u64]) -> u64 {
     let mut sum = 0;
     for i in 0..words.len() {
         sum = added(added(sum, words[i] / 4294967296), words[i] % 4294967296);

@@ -1,18 +1,20 @@
-// Runs the fixed cases of clock, voltage, scan and controller, a layer after another: the figures of
-// document 01 are printed, with some answers of the setting finder, and the layer's list in data/ is
-// replayed, which `oracle/run cases` made of the original's answers. A line is a kind, then the numbers
-// of a case: what is asked, and what the original answers. A line that differs is named, and so is one
-// that holds no case, behind which nothing is read; then the cases are counted. The file `stdout` holds
-// all of this as it should be.
+// Runs the fixed cases of clock, voltage, scan, controller and session, a layer after another: the
+// figures of document 01 are printed, with some answers of the setting finder, and the layer's list in
+// data/ is replayed, which `oracle/run cases` made of the original's answers. A line is a kind, then the
+// numbers of a case: what is asked, and what the original answers; session_cases.rt says what a session
+// is. A line that differs is named, and so is one that holds no case, behind which nothing is read; then
+// the cases are counted. The file `stdout` holds all of this as it should be.
 mod clock_cases;
 mod controller_cases;
 mod scan_cases;
+mod session_cases;
 mod voltage_cases;
 mod words;
 
 use decimal::Line;
 use decimal::Read;
 use libc::STDOUT_FILENO;
+use session_cases::Session;
 
 // The kind of a line and the place of the next one.
 enum Case {
@@ -139,6 +141,45 @@ fn replay(text: &[u8], block: &mut [u64], ram: &mut [u8], icons: &mut [u8]) -> T
     tally
 }
 
+// Replays the next session, if there is one. Where the list holds none, it ends.
+fn replay_session(list: &[u8], mut tally: Tally, number: usize) -> Tally {
+    if list.len() <= tally.at {
+        return tally;
+    }
+    let Session::Ran { next, agrees } = session_cases::run_at(list, tally.at) else {
+        name_line(b"no session: number ", number);
+        tally.at = list.len();
+        return tally;
+    };
+    if !agrees {
+        name_line(b"differs: session ", number);
+        tally.differ = more(tally.differ);
+    }
+    tally.at = next;
+    tally.cases = more(tally.cases);
+    tally
+}
+
+// Replays a list of sessions, each of which has at least a byte.
+fn replay_sessions(list: &[u8]) -> Tally {
+    let mut tally = Tally {
+        at: 0,
+        cases: 0,
+        differ: 0,
+    };
+    for number in 0..list.len() {
+        tally = replay_session(list, tally, number);
+    }
+    tally
+}
+
+fn print_tally(tally: Tally) {
+    io::print_decimal(STDOUT_FILENO, tally.cases);
+    io::write_all(STDOUT_FILENO, b" cases, ");
+    io::print_decimal(STDOUT_FILENO, tally.differ);
+    io::write_all(STDOUT_FILENO, b" differ\n");
+}
+
 // Replays the list of a file. One that is not there has no cases.
 fn replay_file(path: &[u8]) {
     let mut text = [0u8; 524288];
@@ -148,11 +189,16 @@ fn replay_file(path: &[u8]) {
     let mut block = [0u64; 75];
     let mut ram = [0u8; 4096];
     let mut icons = [0u8; 256];
-    let tally = replay(&text[..n], &mut block, &mut ram, &mut icons);
-    io::print_decimal(STDOUT_FILENO, tally.cases);
-    io::write_all(STDOUT_FILENO, b" cases, ");
-    io::print_decimal(STDOUT_FILENO, tally.differ);
-    io::write_all(STDOUT_FILENO, b" differ\n");
+    print_tally(replay(&text[..n], &mut block, &mut ram, &mut icons));
+}
+
+// Replays the sessions of a file.
+fn replay_session_file(path: &[u8]) {
+    let mut list = [0u8; 524288];
+    let fd = os::open_read(path);
+    let n = io::read_full(fd, &mut list);
+    libc::close(fd);
+    print_tally(replay_sessions(&list[..n]));
 }
 
 fn main() {
@@ -162,4 +208,5 @@ fn main() {
     replay_file(b"voltage");
     replay_file(b"scan");
     replay_file(b"controller");
+    replay_session_file(b"session");
 }

@@ -51,13 +51,13 @@ fn gives(call: Call) -> usize {
     }
 }
 
-fn sum_of_words(words: &[u64]) -> u64 {
+pub fn sum_of_words(words: &[u64]) -> u64 {
     sum(words
         .iter()
         .flat_map(|word| [word >> 32, word & 0xffff_ffff]))
 }
 
-fn sum_of(bytes: &[u8]) -> u64 {
+pub fn sum_of(bytes: &[u8]) -> u64 {
     sum(bytes.iter().copied().map(u64::from))
 }
 

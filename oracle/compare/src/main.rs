@@ -5,6 +5,7 @@ mod call;
 mod cases;
 mod cases_controller;
 mod cases_scan;
+mod cases_session;
 mod chip;
 mod chip_words;
 mod clock;
@@ -30,6 +31,7 @@ mod paper;
 mod paper_checks;
 mod paper_controller;
 mod paper_scan;
+mod processor;
 mod question;
 mod random;
 mod rates;
@@ -38,6 +40,7 @@ mod session;
 mod shrink;
 mod side;
 mod speed;
+mod speed_controller;
 mod state;
 mod strike;
 mod texts;
@@ -69,10 +72,11 @@ compare fuzz [COUNT]                    damaged states that its validate accepts
 compare clock|voltage|scan paper [COUNT]
                                         with document 01's rules, plainly written (scan 20000)
 Besides:
-compare cases clock|voltage|scan|controller [COUNT]
+compare cases clock|voltage|scan|controller|session [COUNT]
                                         write a fixed list of the original's answers: some hundred,
                                         and COUNT random ones (clock 2000, and as many boundaries;
-                                        voltage 4000; scan 900; controller 96 lists of 50 calls)
+                                        voltage 4000; scan 900; controller 96 lists of 50 calls;
+                                        session 16, and twice as many damaged)
 compare speed                           how long a call takes, the original and ours
 --seed N anywhere sets the seed of every random choice (default 7508).
 Exit: 0 no difference; 1 a difference, a panic, or nothing compared; 2 bad usage; 3 not joined yet.";
@@ -157,6 +161,9 @@ fn command() -> ExitCode {
         ("cases", Some("scan"), Ok(count)) => code(cases_scan::scan(seed, count.unwrap_or(900))),
         ("cases", Some("controller"), Ok(count)) => {
             code(cases_controller::controller(seed, count.unwrap_or(96)))
+        }
+        ("cases", Some("session"), Ok(count)) => {
+            code(cases_session::session(seed, count.unwrap_or(16)))
         }
         (layer @ ("clock" | "voltage" | "scan" | "controller"), Some(side), Ok(count)) => {
             against(layer, side, count, seed)

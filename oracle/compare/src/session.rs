@@ -54,10 +54,11 @@ fn signed(field: &[u8]) -> Option<i32> {
 
 /// A line without its newline: the moment in microseconds, and what it asks for.
 fn line(text: &[u8]) -> Option<(u64, Action)> {
-    let fields: Vec<&[u8]> = text.split(|byte| *byte == b' ').collect();
-    let [us, word, value] = fields[..] else {
+    let mut fields = text.split(|byte| *byte == b' ');
+    let (us, word, value) = (fields.next()?, fields.next()?, fields.next()?);
+    if fields.next().is_some() {
         return None;
-    };
+    }
     let us = decimal(us)?;
     let number = || decimal(value);
     let flag = || number().filter(|number| *number < 2).map(|on| on == 1);
@@ -166,8 +167,7 @@ mod tests {
 
     #[test]
     fn the_papers_listing() {
-        let text = b"us call value\n0 select 1\n0 byte 147\n0 byte 165\n0 byte 47\n0 byte 171\n0 byte 175\n1000 drive 0\n";
-        let session = Session::run(Controller::new(), text, true);
+        let session = Session::run(Controller::new(), crate::texts::PAPER, true);
         let wanted = b"us common inverted v0 lit frame\n1000 8 0 4142731 128 1920\n";
         assert_eq!(session.listing, wanted);
     }

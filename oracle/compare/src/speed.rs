@@ -3,36 +3,36 @@
 //! of what a call changes, so that only the calls are timed. Answers are shown
 //! to the compiler where they stand: a copy of them would be timed too.
 use crate::{
-    block::{block, Block, CLOCK},
     chip::Chip,
     chip_words::ChipWords,
     clock::{random_clock, random_edges, random_moment},
     ffi::{self, clock_words},
     ffi_scan,
+    processor::Start,
     random::Random,
     side::{ClockState, END},
-    valid,
+    speed_controller, valid,
     voltage::{cornered, random_settings, temperatures},
 };
-use nt7508::words::{clock as our_clock, controller, Lent, LentMut};
-use original::ask::{
-    clock,
-    controller::{Controller, PIXELS},
-    voltage::Bench,
+use nt7508::words::{clock as our_clock, scan, voltage, Lent};
+use original::{
+    ask::{
+        clock,
+        controller::{Controller, PIXELS},
+        voltage::Bench,
+    },
+    time::Clock,
 };
-use std::{
-    hint::black_box,
-    time::{Duration, Instant},
-};
+use std::{hint::black_box, time::Duration};
 
 /// Rounds of both sides, one after the other.
-const ROUNDS: usize = 15;
+const ROUNDS: usize = 11;
 
 /// How many nanoseconds the slower side works in a round, about.
-const ROUND: f64 = 8e7;
+const ROUND: f64 = 5e7;
 
 /// How many calls were made, and how long they took.
-type Timed = (usize, Duration);
+pub type Timed = (usize, Duration);
 
 /// Nanoseconds a call, of a side that makes about so many.
 fn a_call(side: &mut impl FnMut(usize) -> Timed, calls: usize) -> f64 {
@@ -47,33 +47,42 @@ fn median(mut rounds: Vec<f64>) -> (f64, f64) {
     (middle, (most - least) / middle * 100.0)
 }
 
-/// A line of the table: the medians of alternating rounds.
-fn line(
+/// A row of the table: the medians of alternating rounds, their ratio, and how far
+/// the rounds of either side lie apart.
+pub fn line(
     name: &str,
     mut original: impl FnMut(usize) -> Timed,
     mut ours: impl FnMut(usize) -> Timed,
 ) {
     // The first calls are slow, and count in no round.
-    let slower = a_call(&mut original, 10_000).max(a_call(&mut ours, 10_000));
-    let calls = (ROUND / slower) as usize;
+    let slower = a_call(&mut original, 1000).max(a_call(&mut ours, 1000));
+    let calls = (ROUND / slower) as usize + 1;
     let (mut first, mut second) = (Vec::new(), Vec::new());
     for _ in 0..ROUNDS {
         first.push(a_call(&mut original, calls));
         second.push(a_call(&mut ours, calls));
     }
     let ((first, apart), (second, our_apart)) = (median(first), median(second));
-    let ratio = second / first;
-    println!("{name:36} {first:9.1} {second:9.1} {ratio:6.2} {apart:7.0}% {our_apart:7.0}%");
+    let (ratio, apart) = (second / first, apart.max(our_apart));
+    println!("| {name} | {first:.1} | {second:.1} | {ratio:.2} | {apart:.0} % |");
+}
+
+/// A row of a call that the original does not have.
+pub fn ours_alone(name: &str, mut ours: impl FnMut(usize) -> Timed) {
+    let calls = (ROUND / a_call(&mut ours, 1000)) as usize + 1;
+    let rounds = (0..ROUNDS).map(|_| a_call(&mut ours, calls)).collect();
+    let (here, apart) = median(rounds);
+    println!("| {name} | – | {here:.1} | – | {apart:.0} % |");
 }
 
 /// Calls over all questions again and again.
-fn timed<'a, Q>(
+pub fn timed<'a, Q>(
     questions: &'a [Q],
     mut call: impl FnMut(&Q) + 'a,
 ) -> impl FnMut(usize) -> Timed + 'a {
     move |calls| {
         let rounds = calls.div_ceil(questions.len());
-        let start = Instant::now();
+        let start = Start::now();
         for _ in 0..rounds {
             questions
                 .iter()
@@ -85,7 +94,7 @@ fn timed<'a, Q>(
 
 /// Calls that change what they are given: on copies, made before the time is
 /// taken.
-fn timed_on_copies<'a, Q, C>(
+pub fn timed_on_copies<'a, Q, C>(
     questions: &'a [Q],
     copy: impl Fn(&Q) -> C + 'a,
     mut call: impl FnMut(&Q, &mut C) + 'a,
@@ -96,7 +105,7 @@ fn timed_on_copies<'a, Q, C>(
         for _ in 0..rounds {
             let mut copies: Vec<C> = questions.iter().map(&copy).collect();
             let all = black_box(&mut copies[..]);
-            let start = Instant::now();
+            let start = Start::now();
             for (question, copy) in questions.iter().zip(all) {
                 call(black_box(question), copy);
             }
@@ -112,7 +121,7 @@ fn clocks(random: &mut Random) {
     let micros: Vec<u64> = (0..4096).map(|_| random.next()).collect();
     let mut out = [0; 2];
     line(
-        "microseconds",
+        "microseconds as a time",
         timed(&micros, |us| {
             black_box(&clock::micros(*us));
         }),
@@ -124,7 +133,7 @@ fn clocks(random: &mut Random) {
     let states: Vec<ClockState> = (0..4096).map(|_| random_clock(random)).collect();
     let mut out = [0; 8];
     line(
-        "new",
+        "new clock",
         timed(&states, |at| {
             black_box(&clock::new(at.at, at.p, at.q));
         }),
@@ -133,7 +142,7 @@ fn clocks(random: &mut Random) {
             black_box(&out);
         }),
     );
-    let edges: Vec<_> = states
+    let edges: Vec<Clocked> = states
         .iter()
         .map(|state| {
             let parts = state.parts();
@@ -153,8 +162,14 @@ fn clocks(random: &mut Random) {
             black_box(&count);
         }),
     );
+    ours_alone(
+        "clock checked",
+        timed(&edges, |(at, _, clock, _, _)| {
+            black_box(our_clock::check(clock, at.p, at.q));
+        }),
+    );
     line(
-        "advance",
+        "clock moved",
         timed_on_copies(
             &edges,
             |(_, clock, ..)| *clock,
@@ -167,6 +182,33 @@ fn clocks(random: &mut Random) {
             |(_, _, clock, ..)| *clock,
             |(at, _, _, _, edges), clock| {
                 black_box(our_clock::moved(clock, at.p, at.q, *edges));
+            },
+        ),
+    );
+    passed(&edges);
+}
+
+/// A clock as both sides hold it, a moment, and so many edges.
+type Clocked<'a> = (&'a ClockState, Clock, [u64; 8], u128, u64);
+
+/// The original counts and then moves; ours does both in one call.
+fn passed(edges: &[Clocked]) {
+    line(
+        "clock moved to a moment",
+        timed_on_copies(
+            edges,
+            |(_, clock, ..)| *clock,
+            |(_, _, _, now, _), clock| {
+                let count = clock::edges_to(clock, *now);
+                black_box(&clock::advance(clock, count));
+            },
+        ),
+        timed_on_copies(
+            edges,
+            |(_, _, clock, ..)| *clock,
+            |(at, _, _, now, _), clock| {
+                let rate = (at.p, at.q);
+                black_box(our_clock::passed_to(clock, rate, *now, u64::MAX, &mut 0));
             },
         ),
     );
@@ -194,15 +236,30 @@ fn voltages(random: &mut Random) {
             black_box(&out);
         }),
     );
+    ours_alone(
+        "voltage settings checked",
+        timed(&questions, |(question, _)| {
+            black_box(voltage::valid(&question.settings));
+        }),
+    );
+    let mut found = [0; 3];
+    ours_alone(
+        "setting finder, no pair in the band",
+        timed(&questions, |(question, _)| {
+            let settings = &question.settings;
+            let number = voltage::find_setting((1, 2), settings, question.temperature, &mut found);
+            black_box((number, &found));
+        }),
+    );
 }
 
 /// A state of the scan layer as both sides hold it, and a moment.
-struct Scanned {
-    state: Controller,
+pub struct Scanned {
+    pub state: Controller,
     chip: ChipWords,
     ram: Vec<u8>,
     icons: Vec<u8>,
-    now: u128,
+    pub now: u128,
 }
 
 impl Scanned {
@@ -216,7 +273,7 @@ impl Scanned {
 
 /// 64 driven states, a second after their last edge, so that drives, images and
 /// counts have all their work to do.
-fn scanned(random: &mut Random) -> Vec<Scanned> {
+pub fn scanned(random: &mut Random) -> Vec<Scanned> {
     let mut all = Vec::new();
     while all.len() < 64 {
         let chip = valid::chip(random);
@@ -242,8 +299,8 @@ fn scanned(random: &mut Random) -> Vec<Scanned> {
 fn scans(random: &mut Random) {
     let all = scanned(random);
     for (name, back) in [
-        ("drive a second on", 0),
-        ("drive at the last edge", 1 << 64),
+        ("drive of the scan, a second after the last edge", 0),
+        ("drive of the scan, at the last edge", 1 << 64),
     ] {
         let (mut out, mut frame) = ([0; 12], 0);
         line(
@@ -267,7 +324,7 @@ fn scans(random: &mut Random) {
         )
     };
     line(
-        "count over a second",
+        "scan counted over a second",
         fallen(),
         timed_on_copies(
             &all,
@@ -278,7 +335,7 @@ fn scans(random: &mut Random) {
         ),
     );
     line(
-        "fall a second on",
+        "fall of the scan, a second after the last edge",
         fallen(),
         timed_on_copies(
             &all,
@@ -290,7 +347,7 @@ fn scans(random: &mut Random) {
     );
     let (mut pixels, mut ours) = ([0; PIXELS], [0; PIXELS]);
     line(
-        "image",
+        "image of the scan",
         timed(&all, |at| {
             at.state.render(&mut pixels);
             black_box(&pixels);
@@ -300,13 +357,45 @@ fn scans(random: &mut Random) {
             black_box(&ours);
         }),
     );
+    electrodes(&all);
+}
+
+/// All 257 electrodes of a drive.
+fn electrodes(all: &[Scanned]) {
+    let drives: Vec<_> = all
+        .iter()
+        .map(|at| {
+            let mut words = [0; 12];
+            ffi_scan::drive(&at.chip, at.now, at.lent(), &mut words, &mut 0);
+            (at.state.drive(at.now).expect("a drive"), words)
+        })
+        .collect();
+    line(
+        "257 electrodes of a drive",
+        timed(&drives, |(drive, _)| {
+            for common in 0..=128 {
+                black_box(drive.common_microvolts(common));
+            }
+            for segment in 0..128 {
+                black_box(drive.segment_microvolts(segment));
+            }
+        }),
+        timed(&drives, |(_, words)| {
+            for common in 0..=128 {
+                black_box(scan::common_microvolts(words, common));
+            }
+            for segment in 0..128 {
+                black_box(scan::segment_microvolts(words, segment));
+            }
+        }),
+    );
 }
 
 /// Calls at moments that go on from call to call, from round to round.
-fn timed_on(mut call: impl FnMut(u64)) -> impl FnMut(usize) -> Timed {
+pub fn timed_on(mut call: impl FnMut(u64)) -> impl FnMut(usize) -> Timed {
     let mut number = 0;
     move |calls| {
-        let start = Instant::now();
+        let start = Start::now();
         for _ in 0..calls {
             number += 1;
             call(number);
@@ -316,7 +405,7 @@ fn timed_on(mut call: impl FnMut(u64)) -> impl FnMut(usize) -> Timed {
 }
 
 /// A controller that runs, selected.
-fn running() -> Controller {
+pub fn running() -> Controller {
     let mut running = Controller::new();
     running.select(true);
     for byte in [0xab, 0xaf, 0x2f] {
@@ -331,10 +420,10 @@ fn running() -> Controller {
 fn scan_bytes() {
     let running = running();
     for (name, page, apart) in [
-        ("command byte, 61 us apart *", None, 50),
-        ("command byte, 4 us apart *", None, 46),
-        ("data byte, 61 us apart *", Some(0), 50),
-        ("data byte, 4 us apart *", Some(0), 46),
+        ("scan of a command byte, 61 µs after the last *", None, 50),
+        ("scan of a command byte, 4 µs after the last *", None, 46),
+        ("scan of a data byte, 61 µs after the last *", Some(0), 50),
+        ("scan of a data byte, 4 µs after the last *", Some(0), 46),
     ] {
         let mut original = running.clone();
         original.command_data(page.is_some());
@@ -357,161 +446,23 @@ fn scan_bytes() {
             }),
         );
     }
-    println!("* the original: the whole byte; ours: its scan, `before_byte` and `after_byte`");
-}
-
-/// What ours holds of a controller.
-struct Held {
-    block: Block,
-    ram: Vec<u8>,
-    icons: Vec<u8>,
-}
-
-impl Held {
-    fn of(state: &Controller) -> Self {
-        Self {
-            block: block(state),
-            ram: state.ram().to_vec(),
-            icons: state.icons().to_vec(),
-        }
-    }
-    fn lent(&self) -> Lent<'_> {
-        Lent {
-            ram: &self.ram,
-            icons: &self.icons,
-        }
-    }
-    /// A whole byte.
-    fn byte(&mut self, byte: u8, now: u128, event: &mut [u64; 8]) -> u64 {
-        let lent = LentMut {
-            ram: &mut self.ram,
-            icons: &mut self.icons,
-        };
-        controller::shift_in(&mut self.block, (byte, 8), now, lent, event)
-    }
-}
-
-/// A row of bytes: its name, the state that they find, whether they are data, how
-/// far they are apart, and which they are.
-type Row<'a> = (&'a str, &'a Controller, bool, u32, fn(u64) -> u8);
-
-/// Whole bytes to a controller that runs: commands that change nothing, data for
-/// page 0, and the oscillator's frequency, by which every second byte changes the
-/// rate of the scan.
-fn bytes() {
-    let running = running();
-    let by_oscillator = {
-        let mut by_oscillator = running.clone();
-        for byte in [0xf7, 2] {
-            by_oscillator.byte(byte, 0).expect("a command");
-        }
-        by_oscillator.events.clear();
-        by_oscillator
-    };
-    let same = |_: u64| 0xe3;
-    let rates = |number: u64| [0xf6, 0, 0xf6, 8][number as usize % 4];
-    let rows: [Row; 6] = [
-        ("whole command byte, 61 us apart", &running, false, 50, same),
-        ("whole command byte, 4 us apart", &running, false, 46, same),
-        ("whole data byte, 61 us apart", &running, true, 50, same),
-        ("whole data byte, 4 us apart", &running, true, 46, same),
-        (
-            "whole byte, new rates, 61 us apart",
-            &by_oscillator,
-            false,
-            50,
-            rates,
-        ),
-        (
-            "whole byte, new rates, 4 us apart",
-            &by_oscillator,
-            false,
-            46,
-            rates,
-        ),
-    ];
-    for (name, state, data, apart, byte) in rows {
-        let mut original = state.clone();
-        original.command_data(data);
-        let mut ours = Held::of(&original);
-        let mut event = [0; 8];
-        line(
-            name,
-            timed_on(|number| {
-                let now = u128::from(number) << apart;
-                let done = original.shift_in(byte(number), 8, now);
-                done.expect("a byte");
-                original.events.clear();
-            }),
-            timed_on(|number| {
-                let now = u128::from(number) << apart;
-                black_box(ours.byte(byte(number), now, &mut event));
-                black_box(&event);
-            }),
-        );
-        assert!(CLOCK.get(&ours.block) == 1, "a scan that runs");
-    }
-}
-
-/// Drive and image by the controller; and the data line, of which nearly all is
-/// the crossing: the words made a state, its checks, and the state made words.
-fn controllers(random: &mut Random) {
-    let all: Vec<_> = scanned(random)
-        .into_iter()
-        .map(|at| (Held::of(&at.state), at))
-        .collect();
-    let (mut out, mut frame) = ([0; 12], 0);
-    line(
-        "whole drive a second on",
-        timed(&all, |(_, at)| {
-            black_box(&at.state.drive(at.now));
-        }),
-        timed(&all, |(held, at)| {
-            let lent = held.lent();
-            let number = controller::drive(&held.block, at.now, lent, &mut out, &mut frame);
-            black_box(number);
-            black_box((&out, &frame));
-        }),
-    );
-    let (mut pixels, mut ours) = ([0; PIXELS], [0; PIXELS]);
-    line(
-        "whole image",
-        timed(&all, |(_, at)| {
-            at.state.render(&mut pixels);
-            black_box(&pixels);
-        }),
-        timed(&all, |(held, _)| {
-            black_box(controller::render(&held.block, held.lent(), &mut ours));
-            black_box(&ours);
-        }),
-    );
-    let mut original = running();
-    let mut ours = Held::of(&original);
-    line(
-        "data line: the crossing and checks",
-        timed_on(|number| {
-            black_box(&mut original).command_data(number % 2 == 0);
-        }),
-        timed_on(|number| {
-            black_box(controller::command_data(&mut ours.block, number % 2 == 0));
-        }),
-    );
 }
 
 pub fn run(seed: u64) -> bool {
     println!(
-        "seed {seed}, medians of {ROUNDS} alternating rounds; spread: from the least to the most"
+        "seed {seed}; nanoseconds of processor time a call, medians of {ROUNDS} alternating rounds; the last column:"
     );
-    println!(
-        "{:36} {:>9} {:>9} {:>6} {:>8} {:>8}",
-        "nanoseconds a call", "original", "ours", "ratio", "spread", "spread"
-    );
+    println!("how far the rounds lie apart, from the least to the most");
+    println!();
+    println!("| call | the Rust | here | ratio | apart |");
+    println!("|---|---|---|---|---|");
     let mut random = Random::new(seed);
     clocks(&mut random);
     voltages(&mut random);
     scans(&mut random);
     scan_bytes();
-    controllers(&mut random);
-    bytes();
+    speed_controller::rows(&mut random);
+    println!();
+    println!("* the Rust: the whole byte; here: its scan, `before_byte` and `after_byte`");
     true
 }

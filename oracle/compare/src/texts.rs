@@ -26,6 +26,8 @@ struct Maker<'a> {
     opening: usize,
     /// Whether time mostly stands.
     still: bool,
+    /// Calls that bring the glass back after a fall of the supply, the last first.
+    reviving: Vec<&'static str>,
 }
 
 impl Maker<'_> {
@@ -55,15 +57,24 @@ impl Maker<'_> {
         }
         self.us
     }
+    fn supply(&mut self) -> String {
+        let any = self.random.next() as u16;
+        let rails = [0, 1649, 1650, 2399, 2400, 3000, 3000, 3600, any];
+        let rail = self.random.pick(&rails);
+        if rail < 1650 {
+            self.reviving = vec!["select 1", "deadline 0", "supply 3000"];
+            self.opening = OPENING.len();
+        }
+        format!("supply {rail}")
+    }
     fn call(&mut self) -> String {
+        if !self.reviving.is_empty() && self.random.one_in(2) {
+            return self.reviving.pop().map_or(String::new(), str::to_string);
+        }
         match self.random.below(32) {
             0 => format!("select {}", self.random.pick(&[0, 1, 1, 1])),
             1..=2 => format!("dc {}", self.random.below(2)),
-            3 => {
-                let any = self.random.next() as u16;
-                let rails = [0, 1649, 1650, 2399, 2400, 3000, 3000, 3600, any];
-                format!("supply {}", self.random.pick(&rails))
-            }
+            3 => self.supply(),
             4 => {
                 let any = self.random.next() as i32;
                 let plain = self.random.below(115_003) as i32 - 30_001;
@@ -83,13 +94,14 @@ impl Maker<'_> {
 }
 
 /// A text of lines that are all well-formed, of up to so many bytes.
-fn good(random: &mut Random, lines: u64, longest: usize) -> Vec<u8> {
+pub fn good(random: &mut Random, lines: u64, longest: usize) -> Vec<u8> {
     let mut text = NAMES.to_vec();
     let start = random.spread(u128::from(LAST)) as u64;
     let mut maker = Maker {
         us: random.pick(&[0, 0, 5, start]),
         opening: OPENING.len(),
         still: random.one_in(3),
+        reviving: Vec::new(),
         random,
     };
     text.extend(format!("{} select 1\n", maker.us).bytes());
@@ -156,7 +168,7 @@ fn replace_field(random: &mut Random, text: &mut Vec<u8>) {
 }
 
 /// Puts one thing out of place.
-fn damage(random: &mut Random, text: &mut Vec<u8>) {
+pub fn damage(random: &mut Random, text: &mut Vec<u8>) {
     if text.is_empty() {
         return text.push(random.pick(BYTES));
     }
@@ -178,31 +190,39 @@ fn damage(random: &mut Random, text: &mut Vec<u8>) {
     }
 }
 
+/// The session of document 01.
+pub const PAPER: &[u8] = b"us call value\n0 select 1\n0 byte 147\n0 byte 165\n0 byte 47\n\
+    0 byte 171\n0 byte 175\n1000 drive 0\n";
+
+/// A whole text of exactly as many bytes as it may have, by a longer moment in its
+/// last line.
+pub fn longest(random: &mut Random) -> Vec<u8> {
+    let line = b"0 drive 0\n";
+    let mut text = good(random, u64::MAX, LONGEST - 64);
+    while text.len() + 2 * line.len() <= LONGEST {
+        text.extend(line);
+    }
+    let rest = LONGEST - text.len() - line.len();
+    text.extend(std::iter::repeat_n(b'1', rest));
+    text.extend(line);
+    text
+}
+
 /// A text of about so many bytes as a session may have, or some more.
 fn long(random: &mut Random) -> Vec<u8> {
-    let mut text = good(random, 8_000, LONGEST);
+    let mut text = good(random, u64::MAX, LONGEST);
     match random.below(4) {
-        0 => (),
-        1 => text.resize(LONGEST, b'0'),
-        2 => text.resize(LONGEST + 1, b'\n'),
-        _ => {
-            // Exactly as long as it may be, by a longer moment in the last line.
-            let line = b"0 drive 0\n";
-            text.truncate(LONGEST - 64);
-            let cut = text
-                .iter()
-                .rposition(|byte| *byte == b'\n')
-                .map_or(0, |at| at + 1);
-            text.truncate(cut);
-            while text.len() + 2 * line.len() <= LONGEST {
-                text.extend(line);
-            }
-            let rest = LONGEST - text.len() - line.len();
-            text.extend(std::iter::repeat_n(b'1', rest));
-            text.extend(line);
+        0 => text,
+        1 => {
+            text.resize(LONGEST, b'0');
+            text
         }
+        2 => {
+            text.resize(LONGEST + 1, b'\n');
+            text
+        }
+        _ => longest(random),
     }
-    text
 }
 
 /// A text: half of them whole, the others with one to three things out of place,
