@@ -22,7 +22,7 @@ use Rattle.controller.specs.Supply.{select, commandData, setTemperature, setSup
 use Rattle.controller.specs.Update.{update}
 use Rattle.controller.specs.Look.{voltagesOf, driveOf, renderOf, serialEffectEdges, deadlineOf, SaysOf, restore}
 use Rattle.ffi.specs.ClockWords.{time}
-use Rattle.ffi.specs.StateWords.{holdsState, stateOf, stateWords}
+use Rattle.ffi.specs.StateWords.{holdsState, stateOf}
 
 -- what a call answers for the state of a block; where it holds none, number 20 and what was given
 abbrev pub onBlock : {A : Type 0} → (w : List ℕ) → Option ℕ × A → (given : A) → Option ℕ × A

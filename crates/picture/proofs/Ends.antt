@@ -3,7 +3,7 @@ use Prim.Native.Nat.{ℕ, _+_, _≤_}
 use mathlib.Core.Bool.{Bool, true, false, cond}
 use mathlib.Core.List.{List, [], _∷_}
 use mathlib.Core.Option.{Option, none, some}
-use mathlib.Core.Path.{_≡_, refl, _∙_, ap}
+use mathlib.Core.Path.{_≡_, _∙_, ap}
 use lib.ListN.{length, drop}
 use borrow.Author.Tests.{le-leb}
 use Rattle.checks.specs.Checks.{unlessRefused}
@@ -15,7 +15,7 @@ use Rattle.session.specs.declared.line.Line.{Line}
 use Rattle.session.specs.declared.session.Ended.{Ended}
 use Rattle.session.specs.Text.{namesLine, opens, linesOf}
 use Rattle.session.specs.Line.{lineOf}
-use Rattle.session.specs.Session.{Turn, Run, Answer, room, momentOf, callOf, checkOf, afterOf, turnOf, onward, runFrom, runOf, laid, session, refusedAt, answered}
+use Rattle.session.specs.Session.{Turn, Run, Answer, room, momentOf, waitOf, callOf, checkOf, afterOf, turnOf, onward, runFrom, runOf, laid, session, refusedAt, answered}
 
 -- a call, a line and all lines leave a state that passes, if they are given one
 call-passes : (c : Option Call) (m : Machine) → checkState (m .state) ≡ none → checkState (afterOf c m .state) ≡ none
@@ -27,7 +27,7 @@ unfolding turnOf
 turn-passes l m h = go (checkOf m (momentOf (l .us)) (l .action))
   where
     c : Option Call
-    c = callOf (m .state) (momentOf (l .us)) (l .action)
+    c = callOf (waitOf m) (momentOf (l .us)) (l .action)
 
     go : (k : Option ℕ) → checkState (unlessRefused k (afterOf c m) m .state) ≡ none
     go none = call-passes c m h
