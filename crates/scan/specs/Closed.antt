@@ -4,6 +4,7 @@
 use Prim.Native.Nat.{ℕ, zero, suc, _+_, _-_, _*_, _/_, _%_, _<_}
 use mathlib.Core.Bool.{Bool, true, false, cond, not}
 use mathlib.Core.List.{List, [], _∷_}
+use mathlib.Core.Option.{Option, none, some}
 use lib.Dec.{ltb, eqb}
 use lib.ListN.{getD}
 use Rattle.clock.specs.declared.time.Time.{Time}
@@ -23,6 +24,10 @@ use Rattle.scan.specs.Count.{due, limitWith, piece}
 use Rattle.scan.specs.Shade.{columnOf, bitOf, pageOf}
 use Rattle.scan.specs.Latch.{shadeActive, words}
 use Rattle.scan.specs.Image.{upTo, levelOf}
+
+-- the refusal of a scan's check, by its number: 0 where it passes
+abbrev pub refusalOf : ℕ → Option ℕ
+refusalOf n = cond (eqb n 0) none (cond (eqb n 4) (some 4) (some 5))
 
 -- n quanta, one after another
 unfoldable pub quanta : ℕ → Scan → Settings → Scan

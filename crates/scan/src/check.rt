@@ -4,6 +4,7 @@ ghost use mathlib.Core.Path.{_≡_};
 ghost use mathlib.Core.Bool.{true};
 ghost use Rattle.checks.specs.Checks.{row, firstOf};
 ghost use Rattle.scan.specs.Check.{number, refused, linesOk, validSettings, validFrame, frcCountOk, pwmOk, validInversion, validScan, checkScan, memoryOk, imageOk, inOrder, checkMoment, checkLent, checkImage};
+ghost use Rattle.scan.specs.Closed.{refusalOf};
 use crate::settings::Frame;
 use crate::settings::Settings;
 use crate::settings::rows_in;
@@ -83,6 +84,19 @@ impl Settings {
     }
 }
 
+// The check of a scan, by the number that `refusal` answers.
+fn check_of(number: u8) -> Check
+    ensures { λ r. ⌜ refused r ≡ refusalOf number ⌝ }
+{
+    if number == 0 {
+        return Check::Passed;
+    }
+    if number == 4 {
+        return Check::Refused(Refusal::Scan);
+    }
+    Check::Refused(Refusal::Clock)
+}
+
 // What a frame end took is in range.
 fn valid_frame(frame: Frame) -> bool
     ensures { λ r. ⌜ r ≡ validFrame frame ⌝ }
@@ -119,23 +133,30 @@ impl Scan {
             & valid_inversion(inversion)
     }
 
-    // Number 4, and number 5 of a clock that runs.
-    pub fn check(self) -> Check
-        ensures { λ r. ⌜ refused r ≡ checkScan self ⌝ }
+    // Number 4, and number 5 of a clock that runs; 0 where neither applies. A number comes back in a
+    // register, an enum in memory that the caller would have to wait for.
+    fn refusal(self) -> u8
+        ensures { λ r. ⌜ refusalOf r ≡ checkScan self ⌝ }
     {
         if !self.valid() {
-            return Check::Refused(Refusal::Scan);
+            return 4;
         }
         let ticking = self.ticking;
         let clock = ticking.clock;
         let ScanClock::Running(running) = clock else {
-            return Check::Passed;
+            return 0;
         };
         let rate = ticking.rate;
         let clock::Check::Passed = running.check(rate) else {
-            return Check::Refused(Refusal::Clock);
+            return 5;
         };
-        Check::Passed
+        0
+    }
+
+    pub fn check(self) -> Check
+        ensures { λ r. ⌜ refused r ≡ checkScan self ⌝ }
+    {
+        check_of(self.refusal())
     }
 }
 
@@ -159,7 +180,13 @@ pub(crate) fn check_moment(scan: Scan, settings_ok: bool, now: Time) -> Check
 {
     let time = unless(now.in_range(), Refusal::Time);
     let settings = unless(settings_ok, Refusal::Settings);
-    in_order(Check::Passed, Check::Passed, time, settings, scan.check())
+    in_order(
+        Check::Passed,
+        Check::Passed,
+        time,
+        settings,
+        check_of(scan.refusal()),
+    )
 }
 
 // The checks of a call that takes a moment and lent memory.
@@ -175,7 +202,13 @@ pub(crate) fn check_lent(
     let memory = unless(memory_ok(ram, icons), Refusal::Memory);
     let time = unless(moment.in_range(), Refusal::Time);
     let settings = unless(settings_ok, Refusal::Settings);
-    in_order(memory, Check::Passed, time, settings, scan.check())
+    in_order(
+        memory,
+        Check::Passed,
+        time,
+        settings,
+        check_of(scan.refusal()),
+    )
 }
 
 // The checks of a call that takes lent memory and an image of so many bytes.

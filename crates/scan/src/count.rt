@@ -22,8 +22,10 @@ use crate::settings::frame_of;
 use crate::settings::pwm_of;
 use crate::settings::rate_of;
 use crate::settings::rows_in;
+use crate::state::Latch;
 use crate::state::Scan;
 use crate::state::ScanClock;
+use crate::state::Ticking;
 use crate::state::start_clock;
 use crate::state::with_ticking;
 use clock::Clock;
@@ -253,6 +255,46 @@ fn is_due(scan: Scan, now: Time) -> bool
     edge_due(running, rate, now)
 }
 
+fn same_clock(clock: ScanClock) -> ScanClock
+    ensures { λ r. ⌜ r ≡ clock ⌝ }
+{
+    let ScanClock::Running(running) = clock else {
+        return ScanClock::Stopped;
+    };
+    ScanClock::Running(running)
+}
+
+// The same scan, field by field: a plain copy takes the padding after the clock's tag along, in halves
+// that overlap, and the next copy has to wait for both.
+fn rebuilt(scan: Scan) -> Scan
+    ensures { λ r. ⌜ r ≡ scan ⌝ }
+{
+    let ticking = scan.ticking;
+    let clock = ticking.clock;
+    let rate = ticking.rate;
+    let latch = scan.latch;
+    let segments = latch.segments;
+    let frame = scan.frame;
+    let inversion = scan.inversion;
+    let same = same_clock(clock);
+    Scan {
+        ticking: Ticking {
+            clock: same,
+            rate: rate,
+        },
+        latch: Latch {
+            segments: segments,
+            latched: latch.latched,
+        },
+        frame: frame,
+        pwm: scan.pwm,
+        row: scan.row,
+        step: scan.step,
+        frc: scan.frc,
+        inversion: inversion,
+    }
+}
+
 // The scan counted by at most four uses of the piece rule.
 pub(crate) fn in_pieces(scan: Scan, settings: Settings, now: Time) -> Counted
     requires { ⌜ inRange now ≡ true ⌝ }
@@ -260,14 +302,15 @@ pub(crate) fn in_pieces(scan: Scan, settings: Settings, now: Time) -> Counted
     requires { ⌜ checkScan scan ≡ none ⌝ }
     ensures { λ r. ⌜ r ≡ record { check = Check.Passed; scan = countTo scan settings now; pieces = pieces scan settings now } ⌝ }
 {
-    let mut from = scan;
+    let mut from = rebuilt(scan);
     let mut before: u8 = 0;
     loop {
         let piece = piece_of(from, settings, now);
         if piece.last | (before == 3) {
             return done(piece, before);
         }
-        from = piece.scan;
+        let next = piece.scan;
+        from = rebuilt(next);
         before += 1;
     }
 }

@@ -3,7 +3,7 @@
 ghost use mathlib.Core.Path.{_≡_};
 ghost use Prim.Native.Nat.{_+_, _*_, _^_, _<_, _≤_};
 ghost use lib.ListN.{length};
-ghost use Rattle.scan.specs.Latch.{latchedRow, shadeActive, bit as bitOf, word as wordOf, words as wordsOf, presentLatch, shown as shownOf, affects, retained as retainedOf};
+ghost use Rattle.scan.specs.Latch.{latchedRow, shadeActive, bit as bitOf, words as wordsOf, presentLatch, shown as shownOf, affects, retained as retainedOf};
 ghost use Rattle.scan.specs.Closed.{rowBits, AreBits, activeShades, rowActive, rowWords};
 use crate::settings::Settings;
 use crate::shade::bits_of;
@@ -60,20 +60,23 @@ fn pushed(word: u64, active: bool) -> u64
     if active { word * 2 + 1 } else { word * 2 }
 }
 
-// 64 segments from `first` on, taken from the high one down so that no bit is shifted.
-fn word(bits: &[u8; 256], active: [bool; 4], reversed: bool, first: usize) -> u64
+// All segments from their bits: both words together, each from its high segment down so that no bit is
+// shifted.
+fn both_words(bits: &[u8; 256], active: [bool; 4], reversed: bool) -> [u64; 2]
     requires { ⌜ AreBits (now bits) ⌝ }
-    requires { ⌜ first ≤ 64 ⌝ }
-    ensures { λ r. ⌜ r ≡ wordOf (rowActive active (now (bits .entry)) reversed) first 64 ⌝ }
+    ensures { λ r. ⌜ r ≡ wordsOf (rowActive active (now (bits .entry)) reversed) ⌝ }
 {
-    let mut word: u64 = 0;
+    let mut low: u64 = 0;
+    let mut high: u64 = 0;
     let mut left: usize = 64;
     while left > 0 {
         left -= 1;
-        let at = planes(bits, reversed, first + left);
-        word = pushed(word, active[at]);
+        let first = planes(bits, reversed, left);
+        let second = planes(bits, reversed, left + 64);
+        low = pushed(low, active[first]);
+        high = pushed(high, active[second]);
     }
-    word
+    [low, high]
 }
 
 // The latch of a row: `part` is the 256 bytes that hold it, `place` its place in them.
@@ -84,9 +87,7 @@ fn words(part: &[u8], place: u8, active: [bool; 4], reversed: bool) -> [u64; 2]
 {
     let mut bits = [0; 256];
     bits_of(part, place, &mut bits);
-    let low = word(&bits, active, reversed, 0);
-    let high = word(&bits, active, reversed, 64);
-    [low, high]
+    both_words(&bits, active, reversed)
 }
 
 // The latch of a row of RAM, or of the icons.
