@@ -155,9 +155,26 @@ fn report(text: &[u8], memory: &Memory, words: &str) {
     println!("DIFFERENCE in a session, smallest text {text:?}\n  {again}\n  first seen: {words}");
 }
 
+/// Whether the moments of a text that is not refused never fall.
+fn never_falls(text: &[u8]) -> bool {
+    let lines = text.split(|byte| *byte == b'\n').skip(1);
+    let digits = lines.map(|line| line.iter().take_while(|byte| byte.is_ascii_digit()));
+    let number = |number: u64, digit: &u8| 10 * number + u64::from(digit - b'0');
+    let moments = digits.filter(|digits| digits.clone().next().is_some());
+    moments.map(|digits| digits.fold(0, number)).is_sorted()
+}
+
+/// The text without the lines that update.
+fn without_updates(text: &[u8]) -> Vec<u8> {
+    let lines = text.split_inclusive(|byte| *byte == b'\n');
+    let kept = lines.filter(|line| !line.ends_with(b" update 0\n"));
+    kept.collect::<Vec<_>>().concat()
+}
+
 #[derive(Default)]
 struct Tally {
     texts: u64,
+    struck: u64,
     bytes: u64,
     lines: u64,
     driven: u64,
@@ -175,6 +192,16 @@ pub fn run_all(random: &mut Random, count: u64) -> bool {
             return false;
         }
         let session = session.expect("a session that was compared");
+        let kept = without_updates(&text);
+        if session.refused == (0, 0) && kept != text && never_falls(&text) {
+            let ours = listing.run(&kept, &memory);
+            if ours.listing != session.listing || ours.refused != (0, 0) {
+                let text = String::from_utf8_lossy(&text);
+                println!("DIFFERENCE: a listing without its updates, text {text:?}");
+                return false;
+            }
+            tally.struck += 1;
+        }
         tally.texts += 1;
         tally.bytes += text.len() as u64;
         tally.lines += session.lines;
@@ -196,10 +223,12 @@ impl Tally {
             bytes,
             lines,
             driven,
+            struck,
             refused,
         } = self;
         println!("original = ours: session: {texts} inputs compared, texts of {bytes} bytes");
-        total::add(*texts);
+        println!("whole = struck: session: {struck} inputs compared, texts without their updates");
+        total::add(texts + struck);
         let [whole, time, memory, .., line] = *refused;
         println!("among them {lines} lines taken, {driven} drives of a common, {whole} texts whole, {line} refused as 9, {time} as 1, {memory} as 2");
     }
@@ -242,5 +271,12 @@ mod tests {
             refused[session.refused.0 as usize] += 1;
         }
         assert!([0, 1, 2, 9].iter().all(|number| refused[*number] > 0));
+    }
+    #[test]
+    fn only_updates_are_struck() {
+        let text = b"us call value\n0 update 0\n1 drive 0\n2 update 1\n3 update 0";
+        let kept = b"us call value\n1 drive 0\n2 update 1\n3 update 0";
+        assert_eq!(without_updates(text), kept);
+        assert!(never_falls(text) && !never_falls(b"us call value\n2 dc 0\n1 dc 0\n"));
     }
 }

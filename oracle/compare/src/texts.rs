@@ -24,8 +24,9 @@ struct Maker<'a> {
     us: u64,
     /// Bytes of `OPENING` that are still to be sent.
     opening: usize,
-    /// Whether time mostly stands.
+    /// Whether time mostly stands, and whether it now and then goes back.
     still: bool,
+    falls: bool,
     /// Calls that bring the glass back after a fall of the supply, the last first.
     reviving: Vec<&'static str>,
 }
@@ -49,8 +50,8 @@ impl Maker<'_> {
             6..=9 => self.random.below(12),
             10..=13 => self.random.below(2_000),
             14 => self.random.spread(1 << 28) as u64,
-            // An earlier moment, for once.
-            _ => return self.us / 2,
+            _ if self.falls => return self.us / 2,
+            _ => 1,
         };
         if !self.still || self.random.one_in(4) {
             self.us = (self.us + later).min(LAST);
@@ -101,6 +102,7 @@ pub fn good(random: &mut Random, lines: u64, longest: usize) -> Vec<u8> {
         us: random.pick(&[0, 0, 5, start]),
         opening: OPENING.len(),
         still: random.one_in(3),
+        falls: random.one_in(3),
         reviving: Vec::new(),
         random,
     };
