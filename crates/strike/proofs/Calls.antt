@@ -17,7 +17,8 @@ use Rattle.scan.specs.Count.{countTo}
 use Rattle.scan.specs.Run.{stopped, resumed}
 use Rattle.scan.specs.Drive.{runs, driveAt, frameAt, off}
 use Rattle.scan.proofs.Checks as scans
-use Rattle.scan.proofs.Runs.{hasClock, Quiet, count-to-quiet, resumed-quiet, power-on-quiet, stopped-clock}
+use Rattle.scan.specs.Closed.{hasClock}
+use Rattle.scan.proofs.Runs.{Quiet, count-to-quiet, resumed-quiet, power-on-quiet, stopped-clock}
 use Rattle.scan.proofs.Held.{Agree, no-clock, agree-both, agree-counted, agree-stopped, agree-resumed, agree-drive}
 use Rattle.scan.proofs.Drives.{drive-alike, frame-alike, counted-passes}
 use Rattle.controller.specs.declared.state.Nt7508.{Nt7508}
