@@ -173,7 +173,7 @@ unfolding display.checkImage display.inOrder
 image-called x ram icons bytes h = let k = painted-checks x ram icons bytes h in let v = valid x (k .state) in simp (k .memory, k .image-ok, v .display)
 
 -- where the state passes, a call is turned down for its arguments alone
-first-none : (a : Option ℕ) → firstOf a none ≡ a
+pub first-none : (a : Option ℕ) → firstOf a none ≡ a
 first-none none = refl
 first-none (some n) = refl
 

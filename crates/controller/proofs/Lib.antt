@@ -5,5 +5,6 @@ pub mod Registers
 pub mod Bytes
 pub mod Parts
 pub mod Groups
+mod Whole
 pub mod Supplies
 pub mod Figures

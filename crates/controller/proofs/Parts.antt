@@ -34,7 +34,7 @@ use Rattle.controller.specs.Command.{powerAfter, withPending, acted, par
 use Rattle.controller.specs.Byte.{conditionsOf, storeOf, dataStep, pageSent, found, stepOf, settledBy, byteTaken}
 
 -- a command byte, with whether it awaits a parameter given
-abbrev commandTaken : Nt7508 → Pending → (b : ℕ) → Time → (awaiting : Bool) → Stepped
+abbrev pub commandTaken : Nt7508 → Pending → (b : ℕ) → Time → (awaiting : Bool) → Stepped
 commandTaken x (Pending.Command c) b now t = record { state = parameterTaken x c b; event = Event.Control now c (Parameter.Byte b); store = Store.Nothing }
 commandTaken x Pending.None b now t =
     cond t
@@ -47,7 +47,7 @@ unfolding commandStep
 command-is x Pending.None b now = refl
 command-is x (Pending.Command c) b now = refl
 
-step-is : (x : Nt7508) (b : ℕ) (now : Time) → stepOf x b now ≡ cond (x .serial .«data») (dataStep x b now) (commandTaken x (x .serial .pending) b now (awaits b))
+pub step-is : (x : Nt7508) (b : ℕ) (now : Time) → stepOf x b now ≡ cond (x .serial .«data») (dataStep x b now) (commandTaken x (x .serial .pending) b now (awaits b))
 unfolding stepOf
 step-is x b now = ap (cond (x .serial .«data») (dataStep x b now)) (command-is x (x .serial .pending) b now)
 

@@ -5,6 +5,7 @@ pub mod Event
 pub mod Command
 pub mod Byte
 pub mod Bits
+pub mod Closed
 pub mod Supply
 pub mod Look
 pub mod Figures

@@ -1,17 +1,18 @@
 // Bits clocked in: one rising edge of the serial clock, and a group of them. `take` checks, takes the
 // bits and says what is to be stored; `rising` and `shift_in` store it in lent memory.
 ghost use mathlib.Core.Path.{_≡_};
-ghost use mathlib.Core.Bool.{true};
-ghost use mathlib.Core.Option.{none};
+ghost use mathlib.Core.Bool.{true, false};
 ghost use Prim.Native.Nat.{_+_, _*_, _/_, _%_, _^_, _≤_, _<_};
-ghost use Rattle.controller.specs.Check.{checkLent, groupOk};
+ghost use Rattle.controller.specs.Check.{groupOk};
 ghost use Rattle.controller.specs.Event.{ramAfter, iconsAfter};
-ghost use Rattle.controller.specs.Bits.{taking as takingOf, withBits, quiet, performed, edges, unpacked, received, taken, rising as risingOf, shiftIn};
+ghost use Rattle.controller.specs.Bits.{taking as takingOf, withBits, received, taken, rising as risingOf, shiftIn};
 ghost use Rattle.controller.specs.State.{withSerial};
+ghost use Rattle.controller.specs.Closed.{registersOk, completes as completesOf, Short};
 use crate::byte::byte;
 use crate::byte::is_waiting;
 use crate::check::Check;
 use crate::check::check_group;
+use crate::check::registers_ok;
 use crate::event::Event;
 use crate::event::Stepped;
 use crate::event::Store;
@@ -91,31 +92,61 @@ fn grown(state: Nt7508, bits: u8, count: u8) -> Nt7508
     )
 }
 
-// A group of edges. The checks have been made.
-fn group(state: Nt7508, bits: u8, count: u8, moment: Time, ram: &[u8], icons: &[u8]) -> Stepped
-    requires { ⌜ checkLent state moment (now ram) (now icons) ≡ none ⌝ }
+// Whether so many bits are taken and complete a byte.
+fn completes(state: Nt7508, count: u8) -> bool
+    ensures { λ r. ⌜ r ≡ completesOf state count ⌝ }
+{
+    let serial = state.serial;
+    taking(state) & (8 <= (serial.bits as u16) + (count as u16))
+}
+
+// A group that completes no byte.
+fn short(state: Nt7508, bits: u8, count: u8) -> Nt7508
+    requires { ⌜ completesOf state count ≡ false ⌝ }
     requires { ⌜ groupOk bits count ≡ true ⌝ }
-    ensures { λ r. ⌜ performed r (now (ram .entry)) (now (icons .entry)) ≡ edges (unpacked count bits) moment (quiet state (now (ram .entry)) (now (icons .entry))) ⌝ }
+    ensures { λ r. ⌜ Short state bits count r ⌝ }
 {
     if !taking(state) {
-        return unstored(state);
+        return state;
     }
     let serial = state.serial;
+    with_bits(
+        state,
+        joined(serial.shift, bits, count),
+        serial.bits + count,
+    )
+}
+
+// A group that completes a byte. Its checks have been made, but for the scan's.
+fn whole(state: Nt7508, bits: u8, count: u8, moment: Time, ram: &[u8], icons: &[u8]) -> Taken
+    requires { ⌜ registersOk state bits count moment (now ram) (now icons) ≡ true ⌝ }
+    requires { ⌜ completesOf state count ≡ true ⌝ }
+    ensures { λ r. ⌜ taken r (now (ram .entry)) (now (icons .entry)) ≡ shiftIn state bits count moment (now (ram .entry)) (now (icons .entry)) ⌝ }
+{
+    let serial = state.serial;
     let needed = 8 - serial.bits;
-    if count < needed {
-        return unstored(grown(state, bits, count));
-    }
     let rest = count - needed;
     let value = joined(serial.shift, high_bits(bits, rest), needed);
-    let stepped = byte(with_bits(state, 0, 0), value, moment, ram, icons);
+    let answer = byte(with_bits(state, 0, 0), value, moment, ram, icons);
+    let check = answer.check;
+    let Check::Passed = check else {
+        return Taken {
+            check: check,
+            stepped: unstored(state),
+        };
+    };
+    let stepped = answer.stepped;
     let event = stepped.event;
     let store = stepped.store;
     let after = stepped.state;
     let next = grown(after, low_bits(bits, rest), rest);
-    Stepped {
-        state: next,
-        event: event,
-        store: store,
+    Taken {
+        check: Check::Passed,
+        stepped: Stepped {
+            state: next,
+            event: event,
+            store: store,
+        },
     }
 }
 
@@ -144,6 +175,9 @@ impl Nt7508 {
     pub fn take(self, bits: u8, count: u8, moment: Time, ram: &[u8], icons: &[u8]) -> Taken
         ensures { λ r. ⌜ taken r (now (ram .entry)) (now (icons .entry)) ≡ shiftIn self bits count moment (now (ram .entry)) (now (icons .entry)) ⌝ }
     {
+        if registers_ok(self, bits, count, moment, ram, icons) & completes(self, count) {
+            return whole(self, bits, count, moment, ram, icons);
+        }
         let check = check_group(self, bits, count, moment, ram, icons);
         let Check::Passed = check else {
             return Taken {
@@ -151,10 +185,10 @@ impl Nt7508 {
                 stepped: unstored(self),
             };
         };
-        let stepped = group(self, bits, count, moment, ram, icons);
+        let next = short(self, bits, count);
         Taken {
             check: Check::Passed,
-            stepped: stepped,
+            stepped: unstored(next),
         }
     }
 

@@ -1,18 +1,34 @@
-// A whole byte: the scan counted and its latch kept by the settings before it, the byte's action, and
-// inversion, start and clock by the settings and memory after it. It reads lent memory and writes
-// none: its answer says what is to be stored.
+// A whole byte: what it does to the scan, by the settings before it and those after it, and its action.
+// It reads lent memory and writes none: its answer says what is to be stored.
 ghost use mathlib.Core.Path.{_≡_};
-ghost use mathlib.Core.Option.{none};
-ghost use Rattle.controller.specs.Check.{checkLent};
-ghost use Rattle.controller.specs.Byte.{waiting, conditionsOf, nextColumn, storeOf, dataStep, pageSent, found as foundBy, stepOf, settledBy, byteTaken};
+ghost use mathlib.Core.Bool.{true};
+ghost use Rattle.checks.specs.Checks.{changed};
+ghost use Rattle.clock.specs.Time.{inRange};
+ghost use Rattle.scan.specs.Check.{answered as scanAnswered, memoryOk, checkScan};
+ghost use Rattle.scan.specs.Run.{byteScan};
+ghost use Rattle.controller.specs.Check.{refused, validState};
+ghost use Rattle.controller.specs.Event.{unstored as unstoredOf};
+ghost use Rattle.controller.specs.Byte.{waiting, conditionsOf, nextColumn, storeOf, dataStep, pageSent, stepOf, byteTaken};
+ghost use Rattle.controller.specs.Closed.{displayThen, powerThen, runningBy};
+use crate::bits::Taken;
+use crate::check::Check;
+use crate::check::awaits;
+use crate::check::by_scan;
 use crate::command::command;
+use crate::command::display_after;
+use crate::command::display_with;
+use crate::command::power_after;
 use crate::event::Event;
 use crate::event::Stepped;
 use crate::event::Store;
+use crate::event::unstored;
 use crate::state::Address;
 use crate::state::Nt7508;
+use crate::state::Pending;
 use crate::state::Power;
 use crate::state::Ready;
+use crate::state::Serial;
+use crate::update::with_scan;
 use clock::Time;
 use scan::Conditions;
 use scan::DataPage;
@@ -118,51 +134,81 @@ fn step(state: Nt7508, byte: u8, now: Time) -> Stepped
     command(state, byte, now)
 }
 
-// The controller as a byte finds it: counted to the moment, the latch kept where the byte could alter
-// the row shown. The checks have been made.
-fn found(state: Nt7508, moment: Time, ram: &[u8], icons: &[u8]) -> Nt7508
-    requires { ⌜ checkLent state moment (now ram) (now icons) ≡ none ⌝ }
-    ensures { λ r. ⌜ r ≡ foundBy state moment (now (ram .entry)) (now (icons .entry)) ⌝ }
+// The display registers after a byte.
+fn display_then(serial: Serial, display: scan::Settings, byte: u8) -> scan::Settings
+    ensures { λ r. ⌜ r ≡ displayThen serial display byte ⌝ }
 {
-    let scan = state.scan;
-    let page = page_sent(state);
-    let before = scan.before_byte(state.display, moment, page, ram, icons);
-    let kept = before.scan;
-    let mut next = state;
-    next.scan = kept;
-    next
-}
-
-// What a byte left, with inversion, start and clock by it.
-fn settled(was: bool, stepped: Stepped, moment: Time, ram: &[u8], icons: &[u8]) -> Stepped
-    requires { ⌜ checkLent (stepped .state) moment (now ram) (now icons) ≡ none ⌝ }
-    ensures { λ r. ⌜ r ≡ settledBy was stepped moment (now (ram .entry)) (now (icons .entry)) ⌝ }
-{
-    let state = stepped.state;
-    let scan = state.scan;
-    let conditions = conditions_of(state.power);
-    let running = Running::after(was, conditions.runs());
-    let after = scan.after_byte(state.display, moment, running, ram, icons);
-    let updated = after.scan;
-    let event = stepped.event;
-    let store = stepped.store;
-    let mut next = state;
-    next.scan = updated;
-    Stepped {
-        state: next,
-        event: event,
-        store: store,
+    if serial.data {
+        return display;
     }
+    let pending = serial.pending;
+    let Pending::Command(command) = pending else {
+        if awaits(byte) {
+            return display;
+        }
+        return display_after(display, byte);
+    };
+    display_with(display, command, byte)
 }
 
-// A whole byte. The checks have been made. What is to be stored is not in lent memory yet: a data byte
-// makes no scan begin, and only a scan that begins reads memory.
-pub(crate) fn byte(state: Nt7508, byte: u8, moment: Time, ram: &[u8], icons: &[u8]) -> Stepped
-    requires { ⌜ checkLent state moment (now ram) (now icons) ≡ none ⌝ }
-    ensures { λ r. ⌜ r ≡ byteTaken state byte moment (now (ram .entry)) (now (icons .entry)) ⌝ }
+// The power after a byte.
+fn power_then(serial: Serial, power: Power, byte: u8) -> Power
+    ensures { λ r. ⌜ r ≡ powerThen serial power byte ⌝ }
 {
-    let conditions = conditions_of(state.power);
-    let was = conditions.runs();
-    let before = found(state, moment, ram, icons);
-    settled(was, step(before, byte, moment), moment, ram, icons)
+    if serial.data {
+        return power;
+    }
+    let pending = serial.pending;
+    let Pending::None = pending else {
+        return power;
+    };
+    if awaits(byte) {
+        return power;
+    }
+    power_after(power, byte)
+}
+
+// What a byte does to whether the scan runs.
+fn running_by(serial: Serial, power: Power, byte: u8) -> Running
+    ensures { λ r. ⌜ r ≡ runningBy serial power byte ⌝ }
+{
+    let before = conditions_of(power);
+    let then = power_then(serial, power, byte);
+    let after = conditions_of(then);
+    Running::after(before.runs(), after.runs())
+}
+
+// The scan after a byte. What is to be stored is not in lent memory yet: a data byte makes no scan
+// begin, and only a scan that begins reads memory.
+fn scan_by(state: Nt7508, byte: u8, moment: Time, ram: &[u8], icons: &[u8]) -> scan::Changed
+    ensures { λ r. ⌜ scanAnswered r ≡ byteScan (state .scan) (state .display) (displayThen (state .serial) (state .display) byte) moment (pageSent state) (runningBy (state .serial) (state .power) byte) (now (ram .entry)) (now (icons .entry)) ⌝ }
+{
+    let scan = state.scan;
+    let display = display_then(state.serial, state.display, byte);
+    let running = running_by(state.serial, state.power, byte);
+    let page = page_sent(state);
+    scan.byte(state.display, display, moment, page, running, ram, icons)
+}
+
+// A whole byte, or the refusal of the scan and the state given. The other checks have been made.
+pub(crate) fn byte(state: Nt7508, byte: u8, moment: Time, ram: &[u8], icons: &[u8]) -> Taken
+    requires { ⌜ memoryOk (now ram) (now icons) ≡ true ⌝ }
+    requires { ⌜ inRange moment ≡ true ⌝ }
+    requires { ⌜ validState state ≡ true ⌝ }
+    ensures { λ r. ⌜ (refused (r .check), r .stepped) ≡ changed (checkScan (state .scan)) (byteTaken state byte moment (now (ram .entry)) (now (icons .entry))) (unstoredOf state) ⌝ }
+{
+    let answer = scan_by(state, byte, moment, ram, icons);
+    let check = answer.check;
+    let scan::Check::Passed = check else {
+        return Taken {
+            check: by_scan(check),
+            stepped: unstored(state),
+        };
+    };
+    let kept = answer.scan;
+    let stepped = step(with_scan(state, kept), byte, moment);
+    Taken {
+        check: Check::Passed,
+        stepped: stepped,
+    }
 }

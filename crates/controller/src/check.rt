@@ -3,6 +3,7 @@ ghost use mathlib.Core.Path.{_≡_};
 ghost use Rattle.checks.specs.Checks.{row, firstOf};
 ghost use Rattle.clock.specs.Time.{inRange};
 ghost use Rattle.scan.specs.Check.{refused as scanRefused, memoryOk};
+ghost use Rattle.controller.specs.Closed.{registersOk};
 ghost use Rattle.controller.specs.Check.{number, refused, awaits as awaitsOf, validPending, validSerial, validSaved, validAddress, validPower, validState, checkState, clockNotLater, readyNotEarlier, restoreOk, groupOk, inOrder, checkMoment, checkMemory, checkLent, checkGroup, checkImage, checkRestore};
 use crate::state::Address;
 use crate::state::Nt7508;
@@ -137,7 +138,7 @@ impl Nt7508 {
 }
 
 // A check of the scan by this crate's names, which have the same numbers.
-fn by_scan(check: scan::Check) -> Check
+pub(crate) fn by_scan(check: scan::Check) -> Check
     ensures { λ r. ⌜ refused r ≡ scanRefused check ⌝ }
 {
     match check {
@@ -236,6 +237,24 @@ fn group_ok(bits: u8, count: u8) -> bool
         return false;
     }
     (bits as u16) < 1 << count
+}
+
+// The rows of a group of bits but for the scan's: numbers 2, 1, 3 and 7.
+pub(crate) fn registers_ok(
+    state: Nt7508,
+    bits: u8,
+    count: u8,
+    moment: Time,
+    ram: &[u8],
+    icons: &[u8],
+) -> bool
+    ensures { λ r. ⌜ r ≡ registersOk state bits count moment (now (ram .entry)) (now (icons .entry)) ⌝ }
+{
+    (ram.len() == 4096)
+        & (icons.len() == 256)
+        & moment.in_range()
+        & state.valid()
+        & group_ok(bits, count)
 }
 
 // The checks of a group of bits.

@@ -84,7 +84,7 @@ fn palette_after(reset: bool, held: [u8; 8]) -> [u8; 8]
     held
 }
 
-fn display_after(display: scan::Settings, byte: u8) -> scan::Settings
+pub(crate) fn display_after(display: scan::Settings, byte: u8) -> scan::Settings
     ensures { λ r. ⌜ r ≡ displayAfter display byte ⌝ }
 {
     let reset = byte == RESET;
@@ -130,7 +130,7 @@ fn analog_after(analog: voltage::Settings, byte: u8) -> voltage::Settings
     next
 }
 
-fn power_after(power: Power, byte: u8) -> Power
+pub(crate) fn power_after(power: Power, byte: u8) -> Power
     ensures { λ r. ⌜ r ≡ powerAfter power byte ⌝ }
 {
     let mut next = power;
@@ -235,7 +235,7 @@ fn palette_with(held: [u8; 8], command: u8, byte: u8) -> [u8; 8]
     held
 }
 
-fn display_with(display: scan::Settings, command: u8, byte: u8) -> scan::Settings
+pub(crate) fn display_with(display: scan::Settings, command: u8, byte: u8) -> scan::Settings
     ensures { λ r. ⌜ r ≡ displayWith display command byte ⌝ }
 {
     let mut next = display;

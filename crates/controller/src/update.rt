@@ -16,7 +16,7 @@ pub struct Updated {
     pub pieces: u8,
 }
 
-fn with_scan(state: Nt7508, scan: Scan) -> Nt7508
+pub(crate) fn with_scan(state: Nt7508, scan: Scan) -> Nt7508
     ensures { λ r. ⌜ r ≡ withScan state scan ⌝ }
 {
     let mut next = state;

@@ -26,7 +26,8 @@ use Rattle.scan.specs.Drive.{commonOf, quantaOf}
 use Rattle.scan.proofs.Checks.{Valid, ValidSettings}
 use Rattle.scan.proofs.Counting.{count-count, count-to-valid}
 use Rattle.scan.proofs.Latches.{latch-alike, unaffected, data-outside, icon-outside}
-use Rattle.scan.proofs.Runs.{hasClock, stopped-same, stopped-stays, stopped-shown, cleared-shown, clocked-shown}
+use Rattle.scan.specs.Closed.{hasClock}
+use Rattle.scan.proofs.Runs.{stopped-same, stopped-stays, stopped-shown, cleared-shown, clocked-shown}
 use Rattle.scan.proofs.Drives.{SameDrive}
 
 -- the scan with its latch kept: what is shown now is shown until the next quantum, whatever memory and settings become

@@ -12,6 +12,7 @@ pub mod Shades
 pub mod Latches
 pub mod Images
 pub mod Runs
+mod Steady
 pub mod Drives
 pub mod Held
 pub mod Answers

@@ -29,6 +29,7 @@ use Rattle.scan.specs.Check.{linesOk, validSettings, validRunning, check
 use Rattle.scan.specs.Quantum.{rowEnds, countOn, inversionAfter, frameAfter, ticked, tickedTo, quantum}
 use Rattle.scan.specs.Count.{dueAt, due, countFor, countTo}
 use Rattle.scan.specs.Latch.{latchedRow, shown, affects, keptLatch, retained}
+use Rattle.scan.specs.Closed.{hasClock, linesStay, settled, steady}
 use Rattle.scan.specs.Run.{runningAfter, noLines, cleared, taken, begun, stopped, startedIf, clocked, resumed, updated}
 use Rattle.scan.proofs.Checks.{Valid, InversionFits, ValidSettings, valid-scan, valid-check, valid-settings}
 use Rattle.scan.proofs.Kept.{pwm-pos, pwm-of-ok, frc-count-pos, frc-count-of-ok, frc-count-taken, rows-low, frame-of-fits, rate-lcd}
@@ -163,10 +164,6 @@ unfolding countTo due dueAt stopped withTicking
 stopped-stays x s now = count-none (raw now + 1) (stopped x) s now refl
 
 -- ---- the fields that a byte or a warm rise could change are as it would leave them
-unfoldable pub hasClock : ScanClock → Bool
-hasClock (ScanClock.Running k) = true
-hasClock ScanClock.Stopped = false
-
 pub record Quiet (x : Scan) (s : Settings) (runs : Bool) : Type 0 where
   pub clock : hasClock (x .ticking .clock) ≡ runs && eqb (s .«oscillator_control» % 2) 0
   pub lines : s .«inversion_lines» ≡ 0 → x .inversion .lines ≡ 0

@@ -1,8 +1,8 @@
 -- What the contracts of private functions cite: n quanta at once by division and remainder (src/closed.rt), a piece as
--- src/count.rt answers it, and a row's bits with the activity and the level of what two of them show. Nothing here is a rule; the
+-- src/count.rt answers it, what a byte leaves as it is (src/byte.rt), and a row's bits with the activity and the level of what two of them show. Nothing here is a rule; the
 -- laws show that it comes to what the rules say.
 use Prim.Native.Nat.{ℕ, zero, suc, _+_, _-_, _*_, _/_, _%_, _<_}
-use mathlib.Core.Bool.{Bool, true, false, cond, not}
+use mathlib.Core.Bool.{Bool, true, false, cond, not, _&&_, _||_, Bool·beq}
 use mathlib.Core.List.{List, [], _∷_}
 use mathlib.Core.Option.{Option, none, some}
 use lib.Dec.{ltb, eqb}
@@ -17,12 +17,14 @@ use Rattle.scan.specs.declared.state.ScanClock.{ScanClock}
 use Rattle.scan.specs.declared.state.Ticking.{Ticking}
 use Rattle.scan.specs.declared.state.Inversion.{Inversion}
 use Rattle.scan.specs.declared.count.Piece.{Piece}
+use Rattle.scan.specs.declared.latch.DataPage.{DataPage}
+use Rattle.scan.specs.declared.run.Running.{Running}
 use Rattle.scan.specs.Settings.{pwmOf, frcCountOf, frameOf}
 use Rattle.scan.specs.State.{rows}
 use Rattle.scan.specs.Quantum.{quantum}
 use Rattle.scan.specs.Count.{due, limitWith, piece}
 use Rattle.scan.specs.Shade.{columnOf, bitOf, pageOf}
-use Rattle.scan.specs.Latch.{shadeActive, words}
+use Rattle.scan.specs.Latch.{latchedRow, shadeActive, words, affects}
 use Rattle.scan.specs.Image.{upTo, levelOf}
 
 -- the refusal of a scan's check, by its number: 0 where it passes
@@ -197,3 +199,22 @@ rowLevel levels bits reversed segment = getD levels (planesIn bits (columnOf rev
 -- a pixel that shows nothing
 abbrev pub dark : (x : ℕ) → ℕ
 dark x = 0
+
+-- whether a clock runs
+unfoldable pub hasClock : ScanClock → Bool
+hasClock (ScanClock.Running k) = true
+hasClock ScanClock.Stopped = false
+
+-- no line inversion is left to be ended
+abbrev pub linesStay : Inversion → Settings → Bool
+linesStay i s = not (eqb (s .«inversion_lines») 0) || (eqb (i .lines) 0 && eqb (i .count) 0)
+
+-- nothing is left to be begun, ended, started or dropped after a byte
+unfoldable pub settled : Scan → Settings → Running → Bool
+settled x s Running.Begins = false
+settled x s Running.Continues = linesStay (x .inversion) s && Bool·beq (hasClock (x .ticking .clock)) (eqb (s .«oscillator_control» % 2) 0)
+settled x s Running.Stands = linesStay (x .inversion) s && not (hasClock (x .ticking .clock))
+
+-- nor is the latch to be kept before it
+abbrev pub steady : Scan → Settings → DataPage → Running → Bool
+steady x s page running = settled x s running && (x .latch .latched || not (affects page (latchedRow x)))

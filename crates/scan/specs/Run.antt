@@ -1,9 +1,9 @@
--- Document 01, 'Scan': what a byte, a warm rise or a fall does to the scan. A byte makes two calls: before it acts the scan is
+-- Document 01, 'Scan': what a byte, a warm rise or a fall does to the scan. A byte does two things: before it acts the scan is
 -- counted and its latch kept where the byte could alter it; after it the inversion is cleared, the scan begun, its clock
 -- started or dropped. A warm rise does the same but begins no scan, so that it reads no memory. A fall counts and drops the
 -- clock.
 use Prim.Native.Nat.{ℕ, _%_}
-use mathlib.Core.Bool.{Bool, true, false, cond}
+use mathlib.Core.Bool.{Bool, true, false, cond, _&&_}
 use mathlib.Core.List.{List, [], _∷_}
 use mathlib.Core.Option.{Option}
 use lib.Dec.{eqb}
@@ -84,6 +84,12 @@ beforeByte x s now page ram icons =
 unfoldable pub afterByte : Scan → Settings → Time → Running → (ram icons : List ℕ) → Option ℕ × Scan
 afterByte x s now running ram icons =
     changed (checkLent x (validSettings s) now ram icons) (updated x s now running ram icons) x
+
+-- both at once, by the settings that the byte found and those that it left
+unfoldable pub byteScan : Scan → (before after : Settings) → Time → DataPage → Running → (ram icons : List ℕ) → Option ℕ × Scan
+byteScan x before after now page running ram icons =
+    changed (checkLent x (validSettings before && validSettings after) now ram icons)
+    (updated (retained (countTo x before now) before page ram icons) after now running ram icons) x
 
 unfoldable pub fallScan : Scan → Settings → Time → Option ℕ × Scan
 fallScan x s now = changed (checkMoment x (validSettings s) now) (stopped (countTo x s now)) x

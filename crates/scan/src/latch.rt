@@ -22,7 +22,7 @@ pub enum DataPage {
 // The row of the icons.
 const ICON_ROW: u8 = 128;
 
-fn latched_row(scan: Scan) -> u8
+pub(crate) fn latched_row(scan: Scan) -> u8
     ensures { λ r. ⌜ r ≡ latchedRow scan ⌝ }
 {
     let frame = scan.frame;
@@ -136,7 +136,7 @@ pub(crate) fn shown(scan: Scan, settings: Settings, ram: &[u8], icons: &[u8]) ->
 }
 
 // Whether a byte could alter what a row shows.
-fn affected(page: DataPage, row: u8) -> bool
+pub(crate) fn affected(page: DataPage, row: u8) -> bool
     ensures { λ r. ⌜ r ≡ affects page row ⌝ }
 {
     let DataPage::Page(number) = page else {

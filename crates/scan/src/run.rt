@@ -152,7 +152,7 @@ fn resumed(scan: Scan, settings: Settings, moment: Time, runs: bool) -> Scan
 }
 
 // The scan after a byte.
-fn updated(
+pub(crate) fn updated(
     scan: Scan,
     settings: Settings,
     moment: Time,

@@ -15,7 +15,8 @@ use Rattle.scan.specs.Latch.{retained}
 use Rattle.scan.specs.Run.{runningAfter, updated}
 use Rattle.scan.specs.Drive.{runs}
 use Rattle.scan.proofs.Checks as scans
-use Rattle.scan.proofs.Runs.{hasClock, Quiet, updated-same, updated-quiet, count-to-quiet, retained-quiet}
+use Rattle.scan.specs.Closed.{hasClock}
+use Rattle.scan.proofs.Runs.{Quiet, updated-same, updated-quiet, count-to-quiet, retained-quiet}
 use Rattle.scan.proofs.Held.{Agree, held, agree-retained, command-same, data-agree}
 use Rattle.controller.specs.declared.state.Nt7508.{Nt7508}
 use Rattle.controller.specs.declared.event.Store.{Store}

@@ -1,30 +1,38 @@
 -- `controller::byte::byte` meets its contract.
+use mathlib.Core.Path.{_∙_}
+use Rattle.controller.proofs.Whole.{scan-byte, byte-refused, byte-passed}
 use borrow.Author.Needs.{needs}
-use Rattle.controller.proofs.Bytes.{byte-unread, step-called}
 use Rattle.controller.proofs.byte.byte.Statement.{statement}
 use Rattle.controller.proofs.byte.byte.Tie as tie
 
-settled-requires : tie.Need-settled-requires
-settled-requires c κs =
-    let at-found = c .before in
-    let start = at-found .before .before .before .before .before in
-    simp (c .step .ensures, at-found .found .ensures) (step-called _ _ _ _ (start .pre) _ (search needs))
-
 returns : tie.Need-returns
 returns c =
-    let at-step = c .before in
-    let at-found = at-step .before in
-    let at-runs = at-found .before in
-    let at-conditions-of = at-runs .before in
-    simp (c .settled .ensures, at-step .step .ensures, at-found .found .ensures, at-runs .runs .ensures, at-conditions-of .conditions-of .ensures) (byte-unread _ _ _ _ _)
+    let at-by-scan = c .before in
+    let at-enum-told = at-by-scan .before in
+    let at-scan-by = at-enum-told .before .before in
+    let start = at-scan-by .before .before .before in
+    let by = at-scan-by .scan-by .ensures ∙ scan-byte _ _ _ _ _ (start .pre .0) (start .pre .1 .0) (start .pre .1 .1) (search needs) in
+    simp (c .unstored .ensures) (byte-refused _ _ _ _ _ by (at-enum-told .enum-told2 .given .1) (at-by-scan .by-scan .ensures))
+
+returns-2 : tie.Need-returns-2
+returns-2 c =
+    let at-with-scan = c .before in
+    let at-enum-told = at-with-scan .before .before in
+    let at-scan-by = at-enum-told .before .before in
+    let start = at-scan-by .before .before .before in
+    let by = at-scan-by .scan-by .ensures ∙ scan-byte _ _ _ _ _ (start .pre .0) (start .pre .1 .0) (start .pre .1 .1) (search needs) in
+    simp (c .step .ensures, at-with-scan .with-scan .ensures) (byte-passed _ _ _ _ _ by (at-enum-told .enum-told .given .1))
 
 pub byte-spec : {M : Type 1} → statement M
 byte-spec =
     tie.close
     (tie.spec
     (λ c κs. search needs)
+    (λ c. search needs)
+    (λ c. search needs)
     (λ c κs. search needs)
     (λ c κs. search needs)
+    returns
     (λ c κs. search needs)
-    settled-requires
-    returns)
+    (λ c κs. search needs)
+    returns-2)
