@@ -170,16 +170,7 @@ pub extern "C" fn nt7508_controller_rising(
     ensures ram { λ _. ⌜ now (ram .exit) ≡ risingOn (now (state .entry)) bit seconds fraction (now (ram .entry)) (now (icons .entry)) .1 .ram ⌝ }
     ensures icons { λ _. ⌜ now (icons .exit) ≡ risingOn (now (state .entry)) bit seconds fraction (now (ram .entry)) (now (icons .entry)) .1 .icons ⌝ }
 {
-    nt7508_controller_shift_in(
-        state,
-        bit as u8,
-        1,
-        seconds,
-        fraction,
-        ram,
-        icons,
-        event,
-    )
+    nt7508_controller_shift_in(state, bit as u8, 1, seconds, fraction, ram, icons, event)
 }
 
 // A group of rising edges, the oldest the highest of `bits`.

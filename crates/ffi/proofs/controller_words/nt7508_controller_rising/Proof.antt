@@ -1,14 +1,12 @@
 -- `ffi::controller_words::nt7508_controller_rising` meets its contract.
 use Prim.Native.Nat.{ℕ}
-use mathlib.Core.Bool.{Bool, true, false}
+use mathlib.Core.Bool.{Bool}
 use mathlib.Core.List.{List}
 use mathlib.Core.Option.{Option}
 use mathlib.Core.Path.{_≡_, ap, _∙_}
 use mir.Val.{boolByte}
-use Rattle.clock.specs.declared.time.Time.{Time}
-use Rattle.controller.specs.declared.state.Nt7508.{Nt7508}
-use Rattle.controller.specs.Bits.{Outcome, quiet, rising, shiftIn}
-use Rattle.controller.proofs.Groups.{group-of-one}
+use Rattle.controller.specs.Bits.{Outcome, quiet}
+use Rattle.controller.proofs.Groups.{one-bit}
 use Rattle.ffi.specs.ClockWords.{time}
 use Rattle.ffi.specs.StateWords.{stateOf, stateWords}
 use Rattle.ffi.specs.ControllerWords.{onBlock, eventWords, risingOn, shiftedOn}
@@ -18,10 +16,6 @@ use Rattle.ffi.proofs.controller_words.nt7508_controller_rising.Stateme
 use Rattle.ffi.proofs.controller_words.nt7508_controller_rising.Tie as tie
 
 -- the bit as the number that the code casts it to
-one-bit : (x : Nt7508) (bit : Bool) (now : Time) (ram icons : List ℕ) → shiftIn x (boolByte bit) 1 now ram icons ≡ rising x bit now ram icons
-one-bit x true now ram icons = group-of-one x true now ram icons
-one-bit x false now ram icons = group-of-one x false now ram icons
-
 one-bit-on : (w : List ℕ) (bit : Bool) (seconds fraction : ℕ) (ram icons : List ℕ) → shiftedOn w (boolByte bit) 1 seconds fraction ram icons ≡ risingOn w bit seconds fraction ram icons
 one-bit-on w bit seconds fraction ram icons = ap (λ (r : Option ℕ × Outcome). onBlock w r (quiet (stateOf w) ram icons)) (one-bit (stateOf w) bit (time seconds fraction) ram icons)
 
