@@ -11,6 +11,7 @@ use native.Mathlib.Omega.{arith}
 use lib.Dec.{ltb, eqb}
 use lib.ListN.{length, length-set}
 use lib.Pow.{pow-pos, shl-exact, field, mod-mod-pow, shr-shr, shr-lt}
+use mir.Val.{boolByte}
 use borrow.Author.Tests.{ltb-true, lt-ltb, le-leb, leb-true, eqb-false, eq-eqb, ne-eqb}
 use Rattle.checks.specs.Checks.{firstOf}
 use Rattle.checks.proofs.Tests.{both}
@@ -320,3 +321,8 @@ pub group-of-one : (x : Nt7508) (bit : Bool) (now : Time) (ram icons : List ℕ)
 unfolding shiftIn rising checkGroup checkLent inOrder groupOk edges unpacked andThen orElse
 group-of-one x true now ram icons = refl
 group-of-one x false now ram icons = refl
+
+-- with the bit as the number that code casts it to
+pub one-bit : (x : Nt7508) (bit : Bool) (now : Time) (ram icons : List ℕ) → shiftIn x (boolByte bit) 1 now ram icons ≡ rising x bit now ram icons
+one-bit x true now ram icons = group-of-one x true now ram icons
+one-bit x false now ram icons = group-of-one x false now ram icons

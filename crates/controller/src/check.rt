@@ -250,10 +250,18 @@ pub(crate) fn registers_ok(
 ) -> bool
     ensures { λ r. ⌜ r ≡ registersOk state bits count moment (now (ram .entry)) (now (icons .entry)) ⌝ }
 {
+    // Group by group, so that the state is not copied for it.
+    let display = state.display;
+    let analog = state.analog;
+    let registers = valid_serial(state.serial)
+        & valid_address(state.address)
+        & display.valid()
+        & analog.valid()
+        & valid_power(state.power);
     (ram.len() == 4096)
         & (icons.len() == 256)
         & moment.in_range()
-        & state.valid()
+        & registers
         & group_ok(bits, count)
 }
 

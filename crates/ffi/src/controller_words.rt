@@ -153,7 +153,7 @@ pub extern "C" fn nt7508_controller_new(state: &mut [u64]) -> u64
     0
 }
 
-// One rising edge of the serial clock.
+// One rising edge of the serial clock: a group of one.
 #[no_mangle]
 pub extern "C" fn nt7508_controller_rising(
     state: &mut [u64],
@@ -170,15 +170,7 @@ pub extern "C" fn nt7508_controller_rising(
     ensures ram { λ _. ⌜ now (ram .exit) ≡ risingOn (now (state .entry)) bit seconds fraction (now (ram .entry)) (now (icons .entry)) .1 .ram ⌝ }
     ensures icons { λ _. ⌜ now (icons .exit) ≡ risingOn (now (state .entry)) bit seconds fraction (now (ram .entry)) (now (icons .entry)) .1 .icons ⌝ }
 {
-    if !holds(state) {
-        return NO_STATE;
-    }
-    let moment = Time {
-        seconds: seconds,
-        fraction: fraction,
-    };
-    let answer = state_of(state).rising(bit, moment, ram, icons);
-    put_received(answer, state, event)
+    nt7508_controller_shift_in(state, bit as u8, 1, seconds, fraction, ram, icons, event)
 }
 
 // A group of rising edges, the oldest the highest of `bits`.
