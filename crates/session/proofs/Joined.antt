@@ -141,5 +141,5 @@ module _ (text : List ℕ) (ks : List Bool) where
       let rest = drop (length namesLine) text in
       let kept = joined (keptLines (linesBehind text) ks) in
       let few : length (namesLine ++ kept) ≤ 65536 =
-          omega (arith, leb-true (length text) 65536 (p .0), starts-long text namesLine (p .1), kept-shorter (linesBehind text) ks, ap length (joined-lines rest), length-drop (length namesLine) text, length-append namesLine kept) in
+      omega (arith, leb-true (length text) 65536 (p .0), starts-long text namesLine (p .1), kept-shorter (linesBehind text) ks, ap length (joined-lines rest), length-drop (length namesLine) text, length-append namesLine kept) in
       rw (le-leb (length (namesLine ++ kept)) 65536 few, starts-itself namesLine kept)

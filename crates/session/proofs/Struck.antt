@@ -301,7 +301,7 @@ module _ (t : List ℕ) (ts : List (List ℕ)) (ok : Bool) (last : ℕ) (l : cal
 
   module _ (le : last ≤ next-last)
       (rest : (k : Bool) (n′ : Machine) (j′ : ℕ) → Beside ok next-last (followMark ok l (mark (waitOf m) k)) (turn m .machine) n′
-        → allowedLines ok (followMark ok l (mark (waitOf m) k)) next-last ts (others ks) ≡ true → Same (runFrom (i + 1) ts (turn m .machine)) (runFrom j′ kept n′)) where
+      → allowedLines ok (followMark ok l (mark (waitOf m) k)) next-last ts (others ks) ≡ true → Same (runFrom (i + 1) ts (turn m .machine)) (runFrom j′ kept n′)) where
     abbrev Onward : Bool → Type 0
     Onward k = allowedLines ok (followMark ok l (mark (waitOf m) k)) next-last ts (others ks) ≡ true
 

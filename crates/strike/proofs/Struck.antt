@@ -157,7 +157,8 @@ module _ (ok : Bool) (last : ℕ) (l : Line) (m n : Machine) (w : Next ok last l
   pub memory-same : (n .ram ≡ m .ram) × (n .icons ≡ m .icons)
   memory-same = (
     ap (λ (n : Machine). n .ram) (w .runs .kept-is) ∙ sym (ap (λ (m : Machine). m .ram) (w .runs .full-is)),
-    ap (λ (n : Machine). n .icons) (w .runs .kept-is) ∙ sym (ap (λ (m : Machine). m .icons) (w .runs .full-is)))
+    ap (λ (n : Machine). n .icons) (w .runs .kept-is) ∙ sym (ap (λ (m : Machine). m .icons) (w .runs .full-is)),
+  )
 
   -- ---- the replies
   done : {a b : Option ℕ} → a ≡ b → Reply.Done a ≡ Reply.Done b
