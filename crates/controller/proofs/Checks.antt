@@ -1,13 +1,10 @@
 -- What the checks come to: the conditions of number 3 group by group, what a call knows once its rows pass, and the checks of
 -- the scan's calls out of those of the controller's.
-use Prim.Native.Nat.{ℕ, _≤_, _<_, _^_}
-use mathlib.Core.Bool.{Bool, true, _&&_, Bool·beq}
+use Prim.Native.Nat.{ℕ}
+use mathlib.Core.Bool.{Bool, true, _&&_}
 use mathlib.Core.List.{List}
 use mathlib.Core.Option.{Option, none, some}
 use mathlib.Core.Path.{_≡_, refl, sym, _∙_, ap}
-use lib.Dec.{leb, ltb, eqb}
-use lib.ListN.{length}
-use borrow.Author.Tests.{ltb-true, leb-true, eqb-true}
 use Rattle.checks.specs.Checks.{row, firstOf, changed}
 use Rattle.checks.proofs.Chains.{first-passed, row-passed}
 use Rattle.checks.proofs.Tests.{both}
@@ -19,12 +16,11 @@ use Rattle.scan.specs.Check as display
 use Rattle.voltage.specs.Check as analog
 use Rattle.controller.specs.declared.state.Nt7508.{Nt7508}
 use Rattle.controller.specs.declared.state.Serial.{Serial}
-use Rattle.controller.specs.declared.state.Address.{Address}
 use Rattle.controller.specs.declared.state.Power.{Power}
 use Rattle.controller.specs.declared.check.Refusal.{Refusal}
 use Rattle.controller.specs.declared.check.Check.{Check}
 use Rattle.controller.specs.State.{withScan, withPower, withSerial}
-use Rattle.controller.specs.Check.{refused, validPending, validSerial, validSaved, validAddress, validPower, validState, checkState, restoreOk, groupOk, inOrder, checkMoment, checkMemory, checkLent, checkGroup, checkImage, checkRestore}
+use Rattle.controller.specs.Check.{refused, validSerial, validAddress, validPower, validState, checkState, groupOk, inOrder, checkMoment, checkMemory, checkLent, checkGroup, checkImage, checkRestore}
 
 -- a state that passes numbers 3 to 5, group by group
 pub record Valid (x : Nt7508) : Type 0 where

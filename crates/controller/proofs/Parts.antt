@@ -30,7 +30,7 @@ use Rattle.controller.specs.declared.event.Stepped.{Stepped}
 use Rattle.controller.specs.State.{withScan, withAddress, withSerial}
 use Rattle.controller.specs.Check.{awaits}
 use Rattle.controller.specs.Event.{ramAfter, iconsAfter}
-use Rattle.controller.specs.Command.{powerAfter, withPending, acted, parameterTaken, commandStep}
+use Rattle.controller.specs.Command.{withPending, acted, parameterTaken, commandStep}
 use Rattle.controller.specs.Byte.{conditionsOf, storeOf, dataStep, pageSent, found, stepOf, settledBy, byteTaken}
 
 -- a command byte, with whether it awaits a parameter given

@@ -9,8 +9,6 @@ use lib.IntN.{ℤ}
 use Rattle.checks.proofs.Tests.{both}
 use Rattle.clock.specs.declared.time.Time.{Time}
 use Rattle.clock.specs.Time.{raw}
-use Rattle.scan.specs.declared.state.Scan.{Scan}
-use Rattle.scan.specs.Check.{checkScan}
 use Rattle.scan.specs.Count.{countTo}
 use Rattle.scan.specs.Run.{stopped, resumed}
 use Rattle.scan.specs.Drive.{runs}
@@ -21,7 +19,7 @@ use Rattle.controller.specs.declared.state.Nt7508.{Nt7508}
 use Rattle.controller.specs.declared.state.Serial.{Serial}
 use Rattle.controller.specs.declared.state.Power.{Power}
 use Rattle.controller.specs.declared.state.Ready.{Ready}
-use Rattle.controller.specs.State.{powerOn, withScan, withPower, withSerial}
+use Rattle.controller.specs.State.{powerOn, withPower, withSerial}
 use Rattle.controller.specs.Check.{validPending, validSerial, suppliedAt, validPower, validState, checkState, checkMoment}
 use Rattle.controller.specs.Byte.{conditionsOf}
 use Rattle.controller.specs.Supply.{selectedAs, withData, withTemperature, withReady, withRail, fallen, chilled, coldRisen, warmRisen, risen, switched, railed, deadlineMet}

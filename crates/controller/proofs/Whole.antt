@@ -3,7 +3,7 @@
 use Prim.Native.Nat.{ℕ, _+_, _-_, _*_, _/_, _%_, _^_, _≤_, _<_}
 use mathlib.Core.Bool.{Bool, true, false, cond, _&&_}
 use mathlib.Core.List.{List}
-use mathlib.Core.Option.{Option, none, some}
+use mathlib.Core.Option.{Option, none}
 use mathlib.Core.Path.{_≡_, refl, sym, _∙_, ap, ap₂}
 use native.Mathlib.Omega.{arith}
 use lib.Dec.{leb, ltb}
@@ -38,7 +38,7 @@ use Rattle.controller.proofs.Checks.{Valid, valid, called, grouped, fir
 use Rattle.controller.proofs.PowerOn.{power-on-valid}
 use Rattle.controller.proofs.Bytes.{updated-unread, step-valid}
 use Rattle.controller.proofs.Groups.{grownBy, wholeByte, byte-bits, edges-over, group-bounds, group-passed}
-use Rattle.controller.proofs.Parts.{commandTaken, step-is, scanBefore, scanAfter, besideScan, step-scan, step-data, step-stores, byte-parts}
+use Rattle.controller.proofs.Parts.{commandTaken, step-is, scanBefore, scanAfter, step-scan, step-data, step-stores, byte-parts}
 
 -- ---- the registers that the scan reads
 module _ (x : Nt7508) (b : ℕ) (now : Time) where

@@ -1,7 +1,7 @@
 -- Document 01, 'Controller': bits clocked in. `rising` is one edge; `shift_in` is a group of edges one after another, oldest
 -- first, with the event of the byte that they may complete.
 use Prim.Native.Nat.{ℕ, zero, suc, _+_, _*_, _/_, _%_, _^_}
-use mathlib.Core.Bool.{Bool, true, false, cond, not, _&&_}
+use mathlib.Core.Bool.{Bool, cond, not, _&&_}
 use mathlib.Core.List.{List, [], _∷_}
 use mathlib.Core.Option.{Option}
 use lib.Dec.{eqb}
@@ -10,7 +10,6 @@ use Rattle.clock.specs.declared.time.Time.{Time}
 use Rattle.controller.specs.declared.state.Nt7508.{Nt7508}
 use Rattle.controller.specs.declared.state.Serial.{Serial}
 use Rattle.controller.specs.declared.event.Event.{Event}
-use Rattle.controller.specs.declared.event.Store.{Store}
 use Rattle.controller.specs.declared.event.Stepped.{Stepped}
 use Rattle.controller.specs.declared.bits.Taken.{Taken}
 use Rattle.controller.specs.declared.bits.Received.{Received}

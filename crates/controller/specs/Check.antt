@@ -1,11 +1,10 @@
 -- Document 01, 'Where a call is turned down': the conditions of `validate` on the controller, the numbers of the refusals, and
 -- the rows of the table that a call names, in the table's order.
 use Prim.Native.Nat.{ℕ, _^_}
-use mathlib.Core.Bool.{Bool, true, cond, _&&_, _||_, Bool·beq}
+use mathlib.Core.Bool.{Bool, true, _&&_, _||_, Bool·beq}
 use mathlib.Core.List.{List}
 use mathlib.Core.Option.{Option, none, some}
 use lib.Dec.{leb, ltb, eqb}
-use lib.ListN.{length}
 use Rattle.checks.specs.Checks.{row, firstOf}
 use Rattle.clock.specs.declared.time.Time.{Time}
 use Rattle.clock.specs.Time.{raw, inRange}

@@ -2,7 +2,6 @@
 -- set; a byte that sets none, E3 and E8 and the unassigned ones among them, leaves every register as it was.
 use Prim.Native.Nat.{ℕ, _+_, _-_, _*_, _/_, _%_}
 use mathlib.Core.Bool.{Bool, true, false, cond, _&&_, _||_}
-use mathlib.Core.Option.{Option, none, some}
 use lib.Dec.{leb, eqb}
 use lib.ListN.{set}
 use Rattle.clock.specs.declared.time.Time.{Time}

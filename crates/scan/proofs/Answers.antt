@@ -3,10 +3,10 @@ use Prim.Native.Nat.{ℕ, _≤_}
 use mathlib.Core.Bool.{Bool, true, _&&_}
 use mathlib.Core.List.{List}
 use mathlib.Core.Option.{Option, none}
-use mathlib.Core.Path.{_≡_, sym, _∙_, ap}
+use mathlib.Core.Path.{_≡_, _∙_, ap}
 use native.Mathlib.Omega.{arith}
 use lib.ListN.{length}
-use Rattle.checks.specs.Checks.{unlessRefused, changed}
+use Rattle.checks.specs.Checks.{changed}
 use Rattle.clock.specs.declared.time.Time.{Time}
 use Rattle.clock.specs.Time.{inRange}
 use Rattle.voltage.specs.Voltage.{voltages}
@@ -19,7 +19,6 @@ use Rattle.scan.specs.declared.check.Changed.{Changed}
 use Rattle.scan.specs.declared.check.Check.{Check}
 use Rattle.scan.specs.declared.drive.Conditions.{Conditions}
 use Rattle.scan.specs.declared.drive.Driven.{Driven}
-use Rattle.scan.specs.declared.drive.LcdDrive.{LcdDrive}
 use Rattle.scan.specs.Check.{refused, answered, validSettings, checkMoment, checkLent, checkImage}
 use Rattle.scan.specs.Count.{countTo, pieces, answeredCount, countScan}
 use Rattle.scan.specs.Latch.{retained}

@@ -1,6 +1,6 @@
 -- What the checks come to: the conditions of numbers 3 and 4 one by one, and what a call knows once its rows pass.
 use Prim.Native.Nat.{ℕ, _≤_, _<_}
-use mathlib.Core.Bool.{Bool, true, false, cond, _&&_, _||_, or-true}
+use mathlib.Core.Bool.{Bool, true, false, cond, _||_, or-true}
 use mathlib.Core.List.{List}
 use mathlib.Core.Logic.{_⊎_, inl, inr}
 use mathlib.Core.Option.{Option, none, some}
@@ -9,14 +9,14 @@ use native.Mathlib.Omega.{arith}
 use lib.Dec.{leb, ltb, eqb}
 use lib.ListN.{length}
 use borrow.Author.Tests.{lt-ltb, ltb-true, le-leb, leb-true, eq-eqb, eqb-true}
-use Rattle.checks.specs.Checks.{row, firstOf, changed}
+use Rattle.checks.specs.Checks.{row, changed}
 use Rattle.checks.proofs.Chains.{first-passed, row-passed}
 use Rattle.checks.proofs.Tests.{both, either}
 use Rattle.clock.specs.Rate.{isLcd}
 use Rattle.clock.specs.Check.{validClock, checkClock}
 use Rattle.clock.proofs.Answers.{check-passed, check-valid}
 use Rattle.clock.specs.Time.{inRange}
-use Rattle.scan.specs.Check.{number, refused, linesOk, validSettings, frcCountOk, validFrame, pwmOk, validInversion, validScan, validRunning, checkScan, memoryOk, imageOk, inOrder, checkMoment, checkLent, checkImage}
+use Rattle.scan.specs.Check.{refused, linesOk, validSettings, frcCountOk, validFrame, pwmOk, validInversion, validScan, validRunning, checkScan, memoryOk, imageOk, inOrder, checkMoment, checkLent, checkImage}
 use Rattle.scan.specs.State.{rows}
 use Rattle.clock.specs.declared.time.Time.{Time}
 use Rattle.clock.specs.declared.edges.Clock.{Clock}

@@ -1,31 +1,28 @@
 -- Two scans that agree: counted to a moment and with their latches kept, they are equal. Counting, keeping the latch, stopping
 -- and resuming, and bytes keep two scans agreeing, and what agrees has the same drive. The claim over lists of calls (crate
 -- strike) goes by this.
-use Prim.Native.Nat.{ℕ, zero, suc, _+_, _/_, _%_, _≤_}
-use mathlib.Core.Bool.{Bool, true, false, cond, not, _||_}
+use Prim.Native.Nat.{ℕ, zero, suc, _+_, _%_, _≤_}
+use mathlib.Core.Bool.{Bool, true, false, cond, _||_}
 use mathlib.Core.List.{List}
 use mathlib.Core.Path.{_≡_, refl, sym, _∙_, ap}
 use native.Mathlib.Nat.{le-refl}
 use lib.Dec.{eqb}
-use lib.ListN.{set}
 use Rattle.clock.specs.declared.time.Time.{Time}
 use Rattle.clock.specs.Time.{raw, inRange}
-use Rattle.clock.specs.Edges.{started}
 use Rattle.scan.specs.declared.settings.Settings.{Settings}
 use Rattle.scan.specs.declared.state.Scan.{Scan}
 use Rattle.scan.specs.declared.state.ScanClock.{ScanClock}
 use Rattle.scan.specs.declared.state.Latch.{Latch}
 use Rattle.scan.specs.declared.latch.DataPage.{DataPage}
-use Rattle.scan.specs.Settings.{rateOf}
-use Rattle.scan.specs.State.{rows, withTicking, withInversion, withLatch}
+use Rattle.scan.specs.State.{withTicking, withInversion, withLatch}
 use Rattle.scan.specs.Quantum.{rowEnds, frameEnds, frameAfter, quantum}
 use Rattle.scan.specs.Count.{due, dueAt, countFor, countTo}
 use Rattle.scan.specs.Latch.{latchedRow, presentLatch, shown, affects, keptLatch, retained}
 use Rattle.scan.specs.Run.{cleared, stopped, startedIf, clocked, resumed}
 use Rattle.scan.specs.Drive.{commonOf, quantaOf}
 use Rattle.scan.proofs.Checks.{Valid, ValidSettings}
-use Rattle.scan.proofs.Counting.{count-count, count-to-valid}
-use Rattle.scan.proofs.Latches.{latch-alike, unaffected, data-outside, icon-outside}
+use Rattle.scan.proofs.Counting.{count-count}
+use Rattle.scan.proofs.Latches.{latch-alike, unaffected}
 use Rattle.scan.specs.Closed.{hasClock}
 use Rattle.scan.proofs.Runs.{stopped-same, stopped-stays, stopped-shown, cleared-shown, clocked-shown}
 use Rattle.scan.proofs.Drives.{SameDrive}

@@ -5,8 +5,7 @@ use mathlib.Core.Logic.{_⊎_, inl, inr}
 use mathlib.Core.Option.{none}
 use mathlib.Core.Path.{_≡_, refl, sym, _∙_, ap}
 use native.Mathlib.Omega.{arith}
-use native.Mathlib.Nat.{mul-le-mul, div-self, mul-div-cancel, div-eq-of-lt, div-lt-iff-lt-mul, min-eq-left, min-eq-right}
-use native.Mathlib.Numerals.{add-one}
+use native.Mathlib.Nat.{div-self, mul-div-cancel, div-eq-of-lt, div-lt-iff-lt-mul, min-eq-left, min-eq-right}
 use lib.Dec.{leb, ltb, eqb}
 use borrow.Author.Tests.{eq-eqb, ne-eqb, eqb-true, le-leb, leb-true, leb-false, lt-ltb, ltb-true, ltb-false}
 use Rattle.clock.specs.declared.time.Time.{Time}
@@ -22,7 +21,7 @@ use Rattle.clock.proofs.Laws.{earlier-in-range, moved-moved, edge-counted, coun
 use Rattle.clock.proofs.Rates.{lcd-bounds, same-rate, same-refl}
 use Rattle.scan.specs.Check.{validSettings, validRunning, checkScan}
 use Rattle.scan.specs.Closed.{quanta, tickedBy, inversionIn, endedRows, endedFrames, after, closed, limitIn, endsAt, endsWithin, pieceOf}
-use Rattle.scan.specs.Count.{dueAt, due, countFor, countTo, rowSame, sameFrame, frameSame, rateSame, limitWith, pieceLimit, piece, piecesFor, pieces}
+use Rattle.scan.specs.Count.{dueAt, due, countFor, countTo, rowSame, sameFrame, frameSame, rateSame, limitWith, pieceLimit, piece, piecesFor}
 use Rattle.scan.specs.Quantum.{quantum}
 use Rattle.scan.specs.Settings.{pwmOf, frameOf, rowsIn, rateOf}
 use Rattle.scan.specs.State.{rows, withTicking}
@@ -39,9 +38,6 @@ use Rattle.scan.specs.declared.state.Scan.{Scan}
 use Rattle.scan.specs.declared.state.ScanClock.{ScanClock}
 use Rattle.scan.specs.declared.state.Ticking.{Ticking}
 use Rattle.scan.specs.declared.settings.Frame.{Frame}
-use Rattle.scan.specs.declared.check.Check.{Check}
-use Rattle.scan.specs.declared.count.Piece.{Piece}
-use Rattle.scan.specs.declared.count.Counted.{Counted}
 
 -- the comparison of what two frame ends took
 same-frame : (f g : Frame) → sameFrame f g ≡ true → f ≡ g

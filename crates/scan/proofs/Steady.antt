@@ -1,8 +1,8 @@
 -- Bytes that leave the scan as it is.
-use Prim.Native.Nat.{ℕ, _%_}
-use mathlib.Core.Bool.{Bool, true, false, not, _&&_, _||_, Bool·beq, false≢true}
+use Prim.Native.Nat.{ℕ}
+use mathlib.Core.Bool.{true, false, not, _||_, false≢true}
 use mathlib.Core.List.{List}
-use mathlib.Core.Path.{_≡_, refl, sym, _∙_, ap}
+use mathlib.Core.Path.{_≡_, sym}
 use lib.Dec.{eqb}
 use borrow.Author.Tests.{eq-eqb, eqb-true, not-true}
 use Rattle.checks.proofs.Tests.{both}
@@ -16,7 +16,7 @@ use Rattle.scan.specs.Latch.{latchedRow, affects, retained}
 use Rattle.scan.specs.Run.{updated}
 use Rattle.scan.specs.Closed.{linesStay, settled, steady}
 use Rattle.scan.proofs.Numbers.{beq-true}
-use Rattle.scan.proofs.Runs.{Quiet, updated-same}
+use Rattle.scan.proofs.Runs.{updated-same}
 
 -- where line inversion is off there is none left
 lines-ended : (i : Inversion) (s : Settings) → linesStay i s ≡ true → s .«inversion_lines» ≡ 0 → (i .lines ≡ 0) × (i .count ≡ 0)

@@ -13,7 +13,6 @@ use Rattle.clock.specs.Edges.{started}
 use Rattle.scan.specs.declared.settings.Settings.{Settings}
 use Rattle.scan.specs.declared.state.Scan.{Scan}
 use Rattle.scan.specs.declared.state.ScanClock.{ScanClock}
-use Rattle.scan.specs.declared.state.Ticking.{Ticking}
 use Rattle.scan.specs.declared.state.Inversion.{Inversion}
 use Rattle.scan.specs.declared.latch.DataPage.{DataPage}
 use Rattle.scan.specs.declared.run.Running.{Running}

@@ -1,5 +1,5 @@
 -- `picture::draw` meets its contract.
-use mathlib.Core.Path.{refl, sym, _∙_, ap}
+use mathlib.Core.Path.{sym, _∙_, ap}
 use Prim.Native.Nat.{ℕ}
 use borrow.Author.Needs.{needs}
 use Rattle.controller.specs.Supply.{zeros}

@@ -1,6 +1,6 @@
 -- `picture::put_picture` meets its contract.
 use mathlib.Core.List.{List, map}
-use mathlib.Core.Path.{refl, _∙_, ap}
+use mathlib.Core.Path.{_∙_, ap}
 use Prim.Native.Nat.{ℕ}
 use borrow.Author.Needs.{needs}
 use Rattle.decimal.specs.Print.{put}
