@@ -1,6 +1,7 @@
 -- What the contracts of private functions cite: n quanta at once by division and remainder (src/closed.rt), a piece as
--- src/count.rt answers it, what a byte leaves as it is (src/byte.rt), and a row's bits with the activity and the level of what two of them show. Nothing here is a rule; the
--- laws show that it comes to what the rules say.
+-- src/count.rt answers it, the number of a check (src/check.rt), what a byte leaves as it is (src/byte.rt), and a row's bits
+-- with the activity and the level of what two of them show. Nothing here is a rule; the laws show that it comes to what the
+-- rules say.
 use Prim.Native.Nat.{ℕ, zero, suc, _+_, _-_, _*_, _/_, _%_, _<_}
 use mathlib.Core.Bool.{Bool, true, false, cond, not, _&&_, _||_, Bool·beq}
 use mathlib.Core.List.{List, [], _∷_}
