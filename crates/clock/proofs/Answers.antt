@@ -1,7 +1,7 @@
 -- What each call answers where its checks pass, what the check answers where one of them does not, and what a passed check
 -- says.
 use Prim.Native.Nat.{ℕ, min}
-use mathlib.Core.Bool.{true, false}
+use mathlib.Core.Bool.{Bool, true, false}
 use mathlib.Core.Path.{_≡_, refl, sym, _∙_, ap}
 use Rattle.checks.proofs.Chains.{first-passed, row-passed}
 use Rattle.clock.specs.declared.time.Time.{Time}
@@ -64,3 +64,20 @@ module _ (c : Clock) (r : Rate) where
       let pair : _≡_ {A = ℕ × Clock} (n, d) (min (edgesTo c r now) limit, movedBy c r (min (edgesTo c r now) limit)) = cc in
       ap (λ (x : ℕ × Clock). Passed.Edges (x .0) (x .1)) pair
   pass-passed now limit (Passed.Refused why) e i l v = let q = rw (i, l, v) at e in cc
+
+  -- what an answer to it says of the clock
+  pub pass-valid : (now : Time) (limit : ℕ) {n : ℕ} {d : Clock} → answeredPass (Passed.Edges n d) ≡ passEdges c r now limit → inRange now ≡ true → isLcd r ≡ true → validClock c r ≡ true
+  unfolding passEdges checkClock
+  pass-valid now limit {n} {d} e i l = go (validClock c r) refl
+    where
+      go : (t : Bool) → validClock c r ≡ t → validClock c r ≡ true
+      go true v = v
+      go false v = let q = rw (i, l, v) at e in cc
+
+  pub pass-refused : (now : Time) (limit : ℕ) (why : Refusal) → answeredPass (Passed.Refused why) ≡ passEdges c r now limit → inRange now ≡ true → isLcd r ≡ true → validClock c r ≡ false
+  unfolding passEdges checkClock
+  pass-refused now limit why e i l = go (validClock c r) refl
+    where
+      go : (t : Bool) → validClock c r ≡ t → validClock c r ≡ false
+      go false v = v
+      go true v = let q = rw (i, l, v) at e in cc

@@ -4,6 +4,7 @@ ghost use mathlib.Core.Bool.{true};
 ghost use Rattle.clock.specs.Rate.{isLcd};
 ghost use Rattle.clock.specs.Check.{refused, isOfRate, validClock, checkClock};
 use crate::edges::Clock;
+use crate::edges::over;
 use crate::position::position_of;
 use crate::rate::Rate;
 use crate::wide::mul_add;
@@ -46,7 +47,7 @@ impl Clock {
             return false;
         }
         let position = position_of(at, self.fraction, rate);
-        self.ordinal <= position.high / rate.denominator
+        self.ordinal <= over(position.high, rate.denominator)
     }
 
     // Numbers 4 and 5.

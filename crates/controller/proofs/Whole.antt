@@ -1,9 +1,9 @@
 -- A byte in one call of the scan: what it does to the registers that the scan reads, the scan after it by memory that does not hold
 -- the byte yet, and the refusals of a group in the order in which its code meets them.
 use Prim.Native.Nat.{ℕ, _+_, _-_, _*_, _/_, _%_, _^_, _≤_, _<_}
-use mathlib.Core.Bool.{Bool, true, false, cond, _&&_}
+use mathlib.Core.Bool.{Bool, true, false, cond, _&&_, false≢true}
 use mathlib.Core.List.{List}
-use mathlib.Core.Option.{Option, none}
+use mathlib.Core.Option.{Option, none, some}
 use mathlib.Core.Path.{_≡_, refl, sym, _∙_, ap, ap₂}
 use native.Mathlib.Omega.{arith}
 use lib.Dec.{leb, ltb}
@@ -19,7 +19,8 @@ use Rattle.scan.specs.declared.settings.Settings.{Settings}
 use Rattle.scan.specs.declared.state.Scan.{Scan}
 use Rattle.scan.specs.Check as display
 use Rattle.scan.specs.Check.{memoryOk, checkScan}
-use Rattle.scan.specs.Drive.{runs}
+use Rattle.scan.specs.Drive.{runs, driveAt, frameAt, off, driveScan}
+use Rattle.voltage.specs.Check as analog
 use Rattle.scan.specs.Run.{runningAfter, updated, byteScan}
 use Rattle.controller.specs.declared.check.Check.{Check}
 use Rattle.controller.specs.declared.check.Refusal as refusals
@@ -28,12 +29,13 @@ use Rattle.controller.specs.declared.state.Pending.{Pending}
 use Rattle.controller.specs.declared.state.Power.{Power}
 use Rattle.controller.specs.declared.event.Stepped.{Stepped}
 use Rattle.controller.specs.State.{powerOn, withScan, withAddress, withSerial}
-use Rattle.controller.specs.Check.{refused, awaits, validPending, validSerial, validState, checkState, groupOk, inOrder, checkGroup}
+use Rattle.controller.specs.Check.{refused, awaits, validPending, validSerial, validState, checkState, groupOk, inOrder, checkLent, checkGroup}
 use Rattle.controller.specs.Event.{unstored, ramAfter, iconsAfter}
 use Rattle.controller.specs.Command.{displayAfter, powerAfter, acted, parameterTaken}
 use Rattle.controller.specs.Byte.{conditionsOf, dataStep, pageSent, stepOf, byteTaken}
 use Rattle.controller.specs.Bits.{Outcome, taking, withBits, quiet, performed, shiftIn}
-use Rattle.controller.specs.Closed.{registersOk, completes, displayBy, displayThen, powerBy, powerThen, runningBy}
+use Rattle.controller.specs.Look.{levelsOf, driveOf}
+use Rattle.controller.specs.Closed.{lentOk, registersOk, completes, displayBy, displayThen, powerBy, powerThen, runningBy}
 use Rattle.controller.proofs.Checks.{Valid, valid, called, grouped, first-none, refused-answer}
 use Rattle.controller.proofs.PowerOn.{power-on-valid}
 use Rattle.controller.proofs.Bytes.{updated-unread, step-valid}
@@ -236,3 +238,39 @@ module _ (x : Nt7508) (bits count : ℕ) (now : Time) (ram icons : List ℕ) (h 
           ap (λ (s : Stepped). (none, performed (record { state = grownBy (s .state) rest (bits % 2 ^ rest); event = s .event; store = s .store }) ram icons)) (byte-done (8 - x .serial .bits) (bits / 2 ^ rest) ev)
           ∙ ap (λ (o : Outcome). (none, o)) (sym (edges-over x count bits now ram icons (c .0) under (omega (arith, c .1)) (b .0) (b .1)))
           ∙ sym (group-passed x bits count now ram icons (group-scan x bits count now ram icons h ∙ sym same-scan ∙ scan-passes))
+
+-- ---- a drive, whose scan is checked by the scan's own call
+turned-down : {A : Type 0} (c : Option ℕ) → (c ≡ none → ⊥) → (new given : A) → (c, given) ≡ changed c new given
+turned-down none h new given = absurd (h refl)
+turned-down (some n) h new given = refl
+
+module _ (x : Nt7508) (now : Time) (ram icons : List ℕ) where
+  module _ (h : lentOk x now ram icons ≡ true) where
+    lent-rows : (memoryOk ram icons && inRange now ≡ true) × (validState x ≡ true)
+    unfolding lentOk
+    lent-rows = both (memoryOk ram icons && inRange now) (validState x) h
+
+    lent-scan : checkLent x now ram icons ≡ checkScan (x .scan)
+    unfolding checkLent inOrder checkState
+    lent-scan = let p = both (memoryOk ram icons) (inRange now) (lent-rows .0) in simp (p .0, p .1, lent-rows .1) (first-none (checkScan (x .scan)))
+
+    drive-scan : display.checkLent (x .scan) (display.validSettings (x .display) && analog.validSettings (x .analog)) now ram icons ≡ checkScan (x .scan)
+    unfolding display.checkLent display.inOrder withScan
+    drive-scan =
+        let p = both (memoryOk ram icons) (inRange now) (lent-rows .0) in
+        let v = registers x (lent-rows .1) in
+        simp (p .0, p .1, v .display, v .analog)
+
+    pub drive-by-scan : driveScan (x .scan) (x .display) (x .analog) (conditionsOf (x .power)) now ram icons ≡ driveOf x now ram icons
+    unfolding driveScan driveOf
+    drive-by-scan = ap (λ (c : Option ℕ). changed c (driveAt (x .scan) (x .display) (levelsOf x) (conditionsOf (x .power)) now ram icons, frameAt (x .scan) (x .display) (conditionsOf (x .power)) now) (off, 0)) (drive-scan ∙ sym lent-scan)
+
+  lent-fails : lentOk x now ram icons ≡ false → checkLent x now ram icons ≡ none → ⊥
+  unfolding lentOk checkState
+  lent-fails f h =
+      let k = called x now ram icons h in
+      false≢true (sym f ∙ simp (k .memory, k .in-range, row-passed 3 (validState x) (first-passed _ _ (k .state) .0)))
+
+  pub drive-refused : lentOk x now ram icons ≡ false → {c : Option ℕ} → c ≡ checkLent x now ram icons → (c, (off, 0)) ≡ driveOf x now ram icons
+  unfolding driveOf
+  drive-refused f e = ap (λ (c : Option ℕ). (c, (off, 0))) e ∙ turned-down (checkLent x now ram icons) (lent-fails f) _ (off, 0)

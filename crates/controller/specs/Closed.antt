@@ -21,6 +21,10 @@ use Rattle.controller.specs.Command.{displayAfter, displayWith, powerAft
 use Rattle.controller.specs.Byte.{conditionsOf}
 use Rattle.controller.specs.Bits.{taking, quiet, edges, unpacked}
 
+-- numbers 2, 1 and 3 do not apply
+unfoldable pub lentOk : Nt7508 → Time → (ram icons : List ℕ) → Bool
+lentOk x now ram icons = memoryOk ram icons && inRange now && validState x
+
 -- numbers 2, 1, 3 and 7 do not apply
 unfoldable pub registersOk : Nt7508 → (bits count : ℕ) → Time → (ram icons : List ℕ) → Bool
 registersOk x bits count now ram icons = memoryOk ram icons && inRange now && validState x && groupOk bits count

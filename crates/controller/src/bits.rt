@@ -93,7 +93,7 @@ fn grown(state: Nt7508, bits: u8, count: u8) -> Nt7508
 }
 
 // Whether so many bits are taken and complete a byte.
-fn completes(state: Nt7508, count: u8) -> bool
+pub(crate) fn completes(state: Nt7508, count: u8) -> bool
     ensures { λ r. ⌜ r ≡ completesOf state count ⌝ }
 {
     let serial = state.serial;
@@ -151,7 +151,7 @@ fn whole(state: Nt7508, bits: u8, count: u8, moment: Time, ram: &[u8], icons: &[
 }
 
 // What a byte is to store goes into lent memory.
-fn keep(store: Store, ram: &mut [u8], icons: &mut [u8])
+pub(crate) fn keep(store: Store, ram: &mut [u8], icons: &mut [u8])
     ensures { λ _. ⌜ now (ram .exit) ≡ ramAfter store (now (ram .entry)) ⌝ }
     ensures { λ _. ⌜ now (icons .exit) ≡ iconsAfter store (now (icons .entry)) ⌝ }
 {

@@ -64,7 +64,7 @@ pub(crate) fn conditions_of(power: Power) -> Conditions
 }
 
 // The column stops at 255.
-fn next_column(address: Address) -> Address
+pub(crate) fn next_column(address: Address) -> Address
     ensures { λ r. ⌜ r ≡ nextColumn address ⌝ }
 {
     let mut next = address;
@@ -76,7 +76,7 @@ fn next_column(address: Address) -> Address
     next
 }
 
-fn store_of(address: Address, byte: u8) -> Store
+pub(crate) fn store_of(address: Address, byte: u8) -> Store
     ensures { λ r. ⌜ r ≡ storeOf address byte ⌝ }
 {
     let column = (address.column_byte % 256) as usize;
@@ -113,7 +113,7 @@ fn data(state: Nt7508, byte: u8, now: Time) -> Stepped
     }
 }
 
-fn page_sent(state: Nt7508) -> DataPage
+pub(crate) fn page_sent(state: Nt7508) -> DataPage
     ensures { λ r. ⌜ r ≡ pageSent state ⌝ }
 {
     let serial = state.serial;

@@ -3,7 +3,7 @@ ghost use mathlib.Core.Path.{_≡_};
 ghost use Rattle.checks.specs.Checks.{row, firstOf};
 ghost use Rattle.clock.specs.Time.{inRange};
 ghost use Rattle.scan.specs.Check.{refused as scanRefused, memoryOk};
-ghost use Rattle.controller.specs.Closed.{registersOk};
+ghost use Rattle.controller.specs.Closed.{lentOk, registersOk};
 ghost use Rattle.controller.specs.Check.{number, refused, awaits as awaitsOf, validPending, validSerial, validSaved, validAddress, validPower, validState, checkState, clockNotLater, readyNotEarlier, restoreOk, groupOk, inOrder, checkMoment, checkMemory, checkLent, checkGroup, checkImage, checkRestore};
 use crate::state::Address;
 use crate::state::Nt7508;
@@ -82,7 +82,7 @@ fn valid_pending(pending: Pending) -> bool
     awaits(byte)
 }
 
-fn valid_serial(serial: Serial) -> bool
+pub(crate) fn valid_serial(serial: Serial) -> bool
     ensures { λ r. ⌜ r ≡ validSerial serial ⌝ }
 {
     let pending = serial.pending;
@@ -98,14 +98,14 @@ fn valid_saved(saved: SavedColumn) -> bool
     column < 256
 }
 
-fn valid_address(address: Address) -> bool
+pub(crate) fn valid_address(address: Address) -> bool
     ensures { λ r. ⌜ r ≡ validAddress address ⌝ }
 {
     let saved = address.saved_column;
     (address.page <= 16) & (address.column_byte < 256) & valid_saved(saved)
 }
 
-fn valid_power(power: Power) -> bool
+pub(crate) fn valid_power(power: Power) -> bool
     ensures { λ r. ⌜ r ≡ validPower power ⌝ }
 {
     power.supplied == (1650 <= power.supply_millivolts)
@@ -237,6 +237,26 @@ fn group_ok(bits: u8, count: u8) -> bool
         return false;
     }
     (bits as u16) < 1 << count
+}
+
+// Number 3 does not apply: group by group, so that the state is not copied for it.
+fn groups_valid(state: Nt7508) -> bool
+    ensures { λ r. ⌜ r ≡ validState state ⌝ }
+{
+    let display = state.display;
+    let analog = state.analog;
+    valid_serial(state.serial)
+        & valid_address(state.address)
+        & display.valid()
+        & analog.valid()
+        & valid_power(state.power)
+}
+
+// The rows of a call that takes a moment and lent memory but for the scan's: numbers 2, 1 and 3.
+pub(crate) fn lent_ok(state: Nt7508, moment: Time, ram: &[u8], icons: &[u8]) -> bool
+    ensures { λ r. ⌜ r ≡ lentOk state moment (now (ram .entry)) (now (icons .entry)) ⌝ }
+{
+    (ram.len() == 4096) & (icons.len() == 256) & moment.in_range() & groups_valid(state)
 }
 
 // The rows of a group of bits but for the scan's: numbers 2, 1, 3 and 7.

@@ -174,7 +174,7 @@ fn column_back(address: Address) -> Address
     }
 }
 
-fn address_after(address: Address, byte: u8) -> Address
+pub(crate) fn address_after(address: Address, byte: u8) -> Address
     ensures { λ r. ⌜ r ≡ addressAfter address byte ⌝ }
 {
     if byte == RESET {

@@ -8,9 +8,11 @@ use crate::byte::conditions_of;
 use crate::check::Changed;
 use crate::check::Check;
 use crate::check::Refusal;
+use crate::check::by_scan;
 use crate::check::check_image;
 use crate::check::check_lent;
 use crate::check::check_restore;
+use crate::check::lent_ok;
 use crate::state::Nt7508;
 use crate::state::Ready;
 use crate::state::Serial;
@@ -83,14 +85,14 @@ impl Nt7508 {
     pub fn drive(self, moment: Time, ram: &[u8], icons: &[u8]) -> Driven
         ensures { λ r. ⌜ answeredDrive r ≡ driveOf self moment (now (ram .entry)) (now (icons .entry)) ⌝ }
     {
-        let check = check_lent(self, moment, ram, icons);
-        let Check::Passed = check else {
+        // The scan's own call checks the scan.
+        if !lent_ok(self, moment, ram, icons) {
             return Driven {
-                check: check,
+                check: check_lent(self, moment, ram, icons),
                 drive: LcdDrive::OFF,
                 frame: 0,
             };
-        };
+        }
         let conditions = conditions_of(self.power);
         let driven = scan::drive::drive(
             self.scan,
@@ -101,9 +103,10 @@ impl Nt7508 {
             ram,
             icons,
         );
+        let check = driven.check;
         let drive = driven.drive;
         Driven {
-            check: Check::Passed,
+            check: by_scan(check),
             drive: drive,
             frame: driven.frame,
         }

@@ -1,6 +1,6 @@
 -- Words pasted into a block one part after another: what is done, and behind it what the block held before.
 use Prim.Native.Nat.{ℕ, suc, _+_, _≤_, _<_}
-use mathlib.Core.List.{List, [], _++_, append-nil}
+use mathlib.Core.List.{List, [], _++_, append-nil, append-assoc}
 use mathlib.Core.Path.{_≡_, refl, ap, sym, _∙_}
 use native.Mathlib.Nat.{le-antisymm}
 use native.Mathlib.Numerals.{add-one}
@@ -45,15 +45,25 @@ pub record Filled (w done : List ℕ) (n : ℕ) (now : List ℕ) : Type 0 where
 pub filled-none : (w : List ℕ) → Filled w [] 0 w
 filled-none w = record { long = refl; is = refl }
 
+longer : (done part : List ℕ) (n m : ℕ) → length part ≡ m → length done ≡ n → length (done ++ part) ≡ n + m
+longer done part n m l e = length-append done part ∙ ap (λ (k : ℕ). k + length part) e ∙ ap (λ (k : ℕ). n + k) l
+
+-- a part that is put there, and one that stands there already
 pub filled-more : {w done now : List ℕ} {n : ℕ} (part : List ℕ) (m : ℕ) → length part ≡ m → {next : List ℕ} → next ≡ pasted now n part → Filled w done n now → Filled w (done ++ part) (n + m) next
 unfolding pasted
 filled-more {w} {done} {now} {n} part m l e f = record {
-  long = length-append done part ∙ ap (λ (k : ℕ). k + length part) (f .long) ∙ ap (λ (k : ℕ). n + k) l;
+  long = longer done part n m l (f .long);
   is =
       e
       ∙ ap (λ (o : List ℕ). pasted o n part) (f .is)
       ∙ grown w done part n (f .long)
       ∙ ap (λ (k : ℕ). (done ++ part) ++ drop (n + k) w) l;
+}
+
+pub filled-kept : {w done now : List ℕ} {n : ℕ} (part : List ℕ) (m : ℕ) → length part ≡ m → drop n w ≡ part ++ drop (n + m) w → Filled w done n now → Filled w (done ++ part) (n + m) now
+filled-kept {w} {done} {now} {n} part m l e f = record {
+  long = longer done part n m l (f .long);
+  is = f .is ∙ ap (λ (r : List ℕ). done ++ r) e ∙ sym (append-assoc done part (drop (n + m) w));
 }
 
 pub filled-all : {w done now : List ℕ} {n : ℕ} → length w ≡ n → Filled w done n now → now ≡ done

@@ -1,5 +1,9 @@
 pub mod Answers
 pub mod Blocks
+mod Orders
+mod Fits
 pub mod Held
+pub mod Kept
 pub mod RoundTrip
 pub mod Temperatures
+pub mod Usual

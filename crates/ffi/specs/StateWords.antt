@@ -1,6 +1,6 @@
 -- The controller's state as a block of 75 words, one for each field in the order of declaration; src/state_words.rt lists them.
 use Prim.Native.Nat.{ℕ, _%_, _^_}
-use mathlib.Core.Bool.{Bool, cond, _&&_}
+use mathlib.Core.Bool.{Bool, true, cond, _&&_}
 use mathlib.Core.List.{List, [], _∷_, _++_}
 use lib.Dec.{ltb, eqb}
 use lib.IntN.{ℤ, pos, natAbs, _+ℤ_, _-ℤ_}
@@ -101,6 +101,20 @@ lineFits w =
 -- a block holds a state
 unfoldable pub holdsState : List ℕ → Bool
 holdsState w = eqb (length w) 75 && (scanFits w && displayFits w && analogFits w && powerFits w && lineFits w)
+
+-- the same tests by their kinds, as src/state_words.rt makes them
+abbrev pub below : Bool → (limit : ℕ) → (places w : List ℕ) → Bool
+below b limit [] w = b
+below b limit (k ∷ ks) w = below (b && ltb (getD w k 0) limit) limit ks w
+
+abbrev pub flagsFit : List ℕ → Bool
+flagsFit w = below true 2 (0 ∷ 13 ∷ 15 ∷ 17 ∷ 26 ∷ 28 ∷ 29 ∷ 30 ∷ 31 ∷ 32 ∷ 55 ∷ 56 ∷ 57 ∷ 58 ∷ 61 ∷ 62 ∷ 67 ∷ 69 ∷ 70 ∷ 73 ∷ []) w
+
+abbrev pub bytesFit : List ℕ → Bool
+bytesFit w = below true 256 (14 ∷ 16 ∷ 18 ∷ 19 ∷ 20 ∷ 21 ∷ 22 ∷ 23 ∷ 24 ∷ 25 ∷ 27 ∷ 33 ∷ 34 ∷ 35 ∷ 36 ∷ 37 ∷ 38 ∷ 39 ∷ 40 ∷ 41 ∷ 42 ∷ 43 ∷ 44 ∷ 45 ∷ 46 ∷ 47 ∷ 48 ∷ 49 ∷ 50 ∷ 51 ∷ 52 ∷ 53 ∷ 54 ∷ 65 ∷ 71 ∷ 72 ∷ 74 ∷ []) w
+
+abbrev pub widerFit : List ℕ → Bool
+widerFit w = ltb (getD w 59 0) 65536 && ltb (getD w 60 0) (2 ^ 32) && ltb (getD w 66 0) 65536 && ltb (getD w 68 0) 65536
 
 -- the state of a block
 unfoldable pub clockIn : List ℕ → ScanClock

@@ -13,6 +13,7 @@ ghost use lib.Dec.{eqb};
 ghost use Rattle.ffi.specs.Words.{checkStatus};
 ghost use Rattle.ffi.specs.StateWords.{stateWords};
 ghost use Rattle.ffi.specs.ControllerWords.{parameterWords, eventWords, risingOn, shiftedOn, selectedOn, dataOn, suppliedOn, warmedOn, lostOn, metOn, updatedOn, restoredOn};
+use crate::quick_words::quick_byte;
 use crate::state_words::holds;
 use crate::state_words::put_state;
 use crate::state_words::state_of;
@@ -53,7 +54,7 @@ fn parameter_words(parameter: Parameter) -> [u64; 2]
     }
 }
 
-fn event_words(event: Event) -> [u64; 8]
+pub(crate) fn event_words(event: Event) -> [u64; 8]
     ensures { λ r. ⌜ r ≡ eventWords event ⌝ }
 {
     match event {
@@ -198,6 +199,9 @@ pub extern "C" fn nt7508_controller_shift_in(
         seconds: seconds,
         fraction: fraction,
     };
+    if quick_byte(state, bits, count, moment, ram, icons, event) {
+        return 0;
+    }
     let answer = state_of(state).shift_in(bits, count, moment, ram, icons);
     put_received(answer, state, event)
 }

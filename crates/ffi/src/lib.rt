@@ -6,6 +6,7 @@ pub mod clock_words;
 pub mod controller_words;
 pub mod drive_words;
 pub mod look_words;
+mod quick_words;
 pub mod scan_words;
 pub mod session_words;
 mod state_words;

@@ -17,7 +17,7 @@
 ghost use mathlib.Core.Path.{_≡_};
 ghost use Prim.Native.Nat.{_+_, _≤_};
 ghost use lib.ListN.{length};
-ghost use Rattle.ffi.specs.StateWords.{scanFits, displayFits, analogFits, powerFits, lineFits, holdsState, clockIn, scanWith, scanIn, displayIn, analogIn, temperatureOf, readyIn, powerWith, powerIn, savedIn, addressWith, addressIn, pendingIn, serialWith, serialIn, stateOf, scanPartWith, scanPart, paletteWords, displayPartWith, displayPart, analogPart, temperatureWord, readyWords, powerPartWith, powerPart, savedWords, addressPartWith, addressPart, pendingWords, serialPartWith, serialPart, pasted, stateWords};
+ghost use Rattle.ffi.specs.StateWords.{flagsFit, bytesFit, widerFit, holdsState, clockIn, scanWith, scanIn, displayIn, analogIn, temperatureOf, readyIn, powerWith, powerIn, savedIn, addressWith, addressIn, pendingIn, serialWith, serialIn, stateOf, scanPartWith, scanPart, paletteWords, displayPartWith, displayPart, analogPart, temperatureWord, readyWords, powerPartWith, powerPart, savedWords, addressPartWith, addressPart, pendingWords, serialPartWith, serialPart, pasted, stateWords};
 use crate::scan_words::running_of;
 use crate::scan_words::running_words;
 use clock::Rate;
@@ -36,17 +36,40 @@ use scan::Scan;
 use scan::ScanClock;
 use scan::Ticking;
 
-// Each word fits its field: the scan, the display, the voltages, the power, address and serial line.
-fn scan_fits(w: &[u64]) -> bool
+// Each word fits its field: a yes or no, a byte, or what is wider. Tests of one kind stand together, for the
+// compiler joins them.
+fn flags_fit(w: &[u64]) -> bool
     requires { ⌜ length (now w) ≡ 75 ⌝ }
-    ensures { λ r. ⌜ r ≡ scanFits (now (w .entry)) ⌝ }
+    ensures { λ r. ⌜ r ≡ flagsFit (now (w .entry)) ⌝ }
 {
     (w[0] < 2)
         & (w[13] < 2)
-        & (w[14] < 256)
         & (w[15] < 2)
-        & (w[16] < 256)
         & (w[17] < 2)
+        & (w[26] < 2)
+        & (w[28] < 2)
+        & (w[29] < 2)
+        & (w[30] < 2)
+        & (w[31] < 2)
+        & (w[32] < 2)
+        & (w[55] < 2)
+        & (w[56] < 2)
+        & (w[57] < 2)
+        & (w[58] < 2)
+        & (w[61] < 2)
+        & (w[62] < 2)
+        & (w[67] < 2)
+        & (w[69] < 2)
+        & (w[70] < 2)
+        & (w[73] < 2)
+}
+
+fn bytes_fit(w: &[u64]) -> bool
+    requires { ⌜ length (now w) ≡ 75 ⌝ }
+    ensures { λ r. ⌜ r ≡ bytesFit (now (w .entry)) ⌝ }
+{
+    (w[14] < 256)
+        & (w[16] < 256)
         & (w[18] < 256)
         & (w[19] < 256)
         & (w[20] < 256)
@@ -55,19 +78,7 @@ fn scan_fits(w: &[u64]) -> bool
         & (w[23] < 256)
         & (w[24] < 256)
         & (w[25] < 256)
-        & (w[26] < 2)
-}
-
-fn display_fits(w: &[u64]) -> bool
-    requires { ⌜ length (now w) ≡ 75 ⌝ }
-    ensures { λ r. ⌜ r ≡ displayFits (now (w .entry)) ⌝ }
-{
-    (w[27] < 256)
-        & (w[28] < 2)
-        & (w[29] < 2)
-        & (w[30] < 2)
-        & (w[31] < 2)
-        & (w[32] < 2)
+        & (w[27] < 256)
         & (w[33] < 256)
         & (w[34] < 256)
         & (w[35] < 256)
@@ -82,13 +93,7 @@ fn display_fits(w: &[u64]) -> bool
         & (w[44] < 256)
         & (w[45] < 256)
         & (w[46] < 256)
-}
-
-fn analog_fits(w: &[u64]) -> bool
-    requires { ⌜ length (now w) ≡ 75 ⌝ }
-    ensures { λ r. ⌜ r ≡ analogFits (now (w .entry)) ⌝ }
-{
-    (w[47] < 256)
+        & (w[47] < 256)
         & (w[48] < 256)
         & (w[49] < 256)
         & (w[50] < 256)
@@ -96,36 +101,17 @@ fn analog_fits(w: &[u64]) -> bool
         & (w[52] < 256)
         & (w[53] < 256)
         & (w[54] < 256)
-}
-
-fn power_fits(w: &[u64]) -> bool
-    requires { ⌜ length (now w) ≡ 75 ⌝ }
-    ensures { λ r. ⌜ r ≡ powerFits (now (w .entry)) ⌝ }
-{
-    (w[55] < 2)
-        & (w[56] < 2)
-        & (w[57] < 2)
-        & (w[58] < 2)
-        & (w[59] < 65536)
-        & (w[60] < 4294967296)
-        & (w[61] < 2)
-        & (w[62] < 2)
-}
-
-fn line_fits(w: &[u64]) -> bool
-    requires { ⌜ length (now w) ≡ 75 ⌝ }
-    ensures { λ r. ⌜ r ≡ lineFits (now (w .entry)) ⌝ }
-{
-    (w[65] < 256)
-        & (w[66] < 65536)
-        & (w[67] < 2)
-        & (w[68] < 65536)
-        & (w[69] < 2)
-        & (w[70] < 2)
+        & (w[65] < 256)
         & (w[71] < 256)
         & (w[72] < 256)
-        & (w[73] < 2)
         & (w[74] < 256)
+}
+
+fn wider_fit(w: &[u64]) -> bool
+    requires { ⌜ length (now w) ≡ 75 ⌝ }
+    ensures { λ r. ⌜ r ≡ widerFit (now (w .entry)) ⌝ }
+{
+    (w[59] < 65536) & (w[60] < 4294967296) & (w[66] < 65536) & (w[68] < 65536)
 }
 
 // Whether a block holds a state: it has its length, and each word fits its field.
@@ -135,7 +121,7 @@ pub(crate) fn holds(w: &[u64]) -> bool
     if w.len() != 75 {
         return false;
     }
-    scan_fits(w) & display_fits(w) & analog_fits(w) & power_fits(w) & line_fits(w)
+    flags_fit(w) & bytes_fit(w) & wider_fit(w)
 }
 
 fn clock_in(w: &[u64]) -> ScanClock
@@ -183,7 +169,7 @@ fn scan_with(clock: ScanClock, w: &[u64]) -> Scan
     }
 }
 
-fn scan_in(w: &[u64]) -> Scan
+pub(crate) fn scan_in(w: &[u64]) -> Scan
     requires { ⌜ length (now w) ≡ 75 ⌝ }
     ensures { λ r. ⌜ r ≡ scanIn (now (w .entry)) ⌝ }
 {
@@ -191,7 +177,7 @@ fn scan_in(w: &[u64]) -> Scan
     scan_with(clock, w)
 }
 
-fn display_in(w: &[u64]) -> scan::Settings
+pub(crate) fn display_in(w: &[u64]) -> scan::Settings
     requires { ⌜ length (now w) ≡ 75 ⌝ }
     ensures { λ r. ⌜ r ≡ displayIn (now (w .entry)) ⌝ }
 {
@@ -221,7 +207,7 @@ fn display_in(w: &[u64]) -> scan::Settings
     }
 }
 
-fn analog_in(w: &[u64]) -> voltage::Settings
+pub(crate) fn analog_in(w: &[u64]) -> voltage::Settings
     requires { ⌜ length (now w) ≡ 75 ⌝ }
     ensures { λ r. ⌜ r ≡ analogIn (now (w .entry)) ⌝ }
 {
@@ -274,7 +260,7 @@ fn power_with(temperature: i32, ready: Ready, w: &[u64]) -> Power
     }
 }
 
-fn power_in(w: &[u64]) -> Power
+pub(crate) fn power_in(w: &[u64]) -> Power
     requires { ⌜ length (now w) ≡ 75 ⌝ }
     ensures { λ r. ⌜ r ≡ powerIn (now (w .entry)) ⌝ }
 {
@@ -305,7 +291,7 @@ fn address_with(saved: SavedColumn, w: &[u64]) -> Address
     }
 }
 
-fn address_in(w: &[u64]) -> Address
+pub(crate) fn address_in(w: &[u64]) -> Address
     requires { ⌜ length (now w) ≡ 75 ⌝ }
     ensures { λ r. ⌜ r ≡ addressIn (now (w .entry)) ⌝ }
 {
@@ -337,7 +323,7 @@ fn serial_with(pending: Pending, w: &[u64]) -> Serial
     }
 }
 
-fn serial_in(w: &[u64]) -> Serial
+pub(crate) fn serial_in(w: &[u64]) -> Serial
     requires { ⌜ length (now w) ≡ 75 ⌝ }
     ensures { λ r. ⌜ r ≡ serialIn (now (w .entry)) ⌝ }
 {
@@ -592,7 +578,7 @@ fn put(words: &[u64], at: usize, out: &mut [u64])
 }
 
 // The groups of a state into a block, each at its place.
-fn put_scan(scan: Scan, out: &mut [u64])
+pub(crate) fn put_scan(scan: Scan, out: &mut [u64])
     requires { ⌜ length (now out) ≡ 75 ⌝ }
     ensures { λ _. ⌜ now (out .exit) ≡ pasted (now (out .entry)) 0 (scanPart scan) ⌝ }
 {
@@ -624,7 +610,7 @@ fn put_power(power: Power, out: &mut [u64])
     put(&words, 55, out);
 }
 
-fn put_address(address: Address, out: &mut [u64])
+pub(crate) fn put_address(address: Address, out: &mut [u64])
     requires { ⌜ length (now out) ≡ 75 ⌝ }
     ensures { λ _. ⌜ now (out .exit) ≡ pasted (now (out .entry)) 65 (addressPart address) ⌝ }
 {
@@ -632,7 +618,7 @@ fn put_address(address: Address, out: &mut [u64])
     put(&words, 65, out);
 }
 
-fn put_serial(serial: Serial, out: &mut [u64])
+pub(crate) fn put_serial(serial: Serial, out: &mut [u64])
     requires { ⌜ length (now out) ≡ 75 ⌝ }
     ensures { λ _. ⌜ now (out .exit) ≡ pasted (now (out .entry)) 69 (serialPart serial) ⌝ }
 {

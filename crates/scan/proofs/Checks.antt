@@ -130,6 +130,15 @@ valid-check x v = simp (
   v .clock-ok,
 )
 
+-- number 4 alone
+pub valid-lcd : (x : Scan) → validScan x ≡ true → isLcd (x .ticking .rate) ≡ true
+unfolding validScan
+valid-lcd x v = both _ _ (both _ _ (both _ _ (both _ _ (both _ _ (both _ _ v .0) .0) .0) .0) .0) .0
+
+pub check-by : (x : Scan) → validScan x ≡ true → validRunning (x .ticking .clock) (x .ticking .rate) ≡ true → checkScan x ≡ none
+unfolding checkScan
+check-by x v k = simp (v, k)
+
 -- number 5 by the clock's own check
 module _ (x : Scan) (c : Clock) (k : verdict.Check) (v : validScan x ≡ true) (e : x .ticking .clock ≡ ScanClock.Running c) (h : clocks.refused k ≡ checkClock c (x .ticking .rate)) where
   scan-lcd : isLcd (x .ticking .rate) ≡ true
@@ -208,7 +217,7 @@ pub record Lent (ram icons : List ℕ) : Type 0 where
   pub ram-length : length ram ≡ 4096
   pub icons-length : length icons ≡ 256
 
-lent : (ram icons : List ℕ) → memoryOk ram icons ≡ true → Lent ram icons
+pub lent : (ram icons : List ℕ) → memoryOk ram icons ≡ true → Lent ram icons
 unfolding memoryOk
 lent ram icons h = let l = both _ _ h in record { ram-length = eqb-true _ _ (l .0); icons-length = eqb-true _ _ (l .1) }
 

@@ -18,13 +18,13 @@ use Rattle.scan.specs.declared.settings.Settings.{Settings}
 use Rattle.scan.specs.declared.state.Scan.{Scan}
 use Rattle.scan.specs.declared.latch.DataPage.{DataPage}
 use Rattle.scan.specs.Check.{frcCountOk, validScan, checkScan}
-use Rattle.scan.specs.Closed.{rowBits, shownShade, activeShades, rowActive, rowWords}
+use Rattle.scan.specs.Closed.{rowBits, AreBits, shownShade, activeShades, rowActive, bitsAt, rowWords}
 use Rattle.scan.specs.Latch.{latchedRow, shadeActive, segmentActive, bit, word, words, presentLatch, shown, affects, keptLatch, retained}
 use Rattle.scan.specs.Quantum.{quantum}
 use Rattle.scan.specs.Shade.{columnOf, planes, shadeOf, pageOf, shadeAt, pulseWidth}
 use Rattle.scan.specs.State.{withLatch}
 use Rattle.scan.proofs.Checks.{valid-scan}
-use Rattle.scan.proofs.Shades.{planes-in}
+use Rattle.scan.proofs.Shades.{are-bits, planes-in}
 
 -- the activity of what two planes show, and so of a row's segments from its bits
 active-at : (x : Scan) (s : Settings) (n : ℕ) → n < 4 → getD (activeShades x s) n false ≡ shadeActive x s (shownShade s n)
@@ -44,19 +44,10 @@ bit-le : (on : Bool) → bit on ≤ 1
 bit-le true = omega arith
 bit-le false = omega arith
 
--- one bit more below the others
-pub word-more : (f : ℕ → Bool) (at n at' n' : ℕ) → at' + 1 ≡ at → n' ≡ suc n → bit (f at') + 2 * word f at n ≡ word f at' n'
-unfolding word
-word-more f at n at' n' e d = ap (λ (a : ℕ). bit (f at') + 2 * word f a n) (sym e) ∙ sym (ap (λ (m : ℕ). word f at' m) d)
-
-word-lt : (f : ℕ → Bool) (at n : ℕ) → word f at n < 2 ^ n
+pub word-lt : (f : ℕ → Bool) (at n : ℕ) → word f at n < 2 ^ n
 unfolding word
 word-lt f at zero = omega arith
 word-lt f at (suc n) = omega (arith, pow-suc 2 n, word-lt f (at + 1) n, bit-le (f at))
-
--- so that one bit more has room
-pub word-fits : (f : ℕ → Bool) (at left : ℕ) → 1 ≤ left → word f at (64 - left) < 2 ^ 63
-word-fits f at left h = lt-of-lt-of-le (word-lt f at (64 - left)) (pow-mono {j = 63} (omega arith))
 
 pub word-at : (f : ℕ → Bool) {at at' n n' : ℕ} → at ≡ at' → n ≡ n' → word f at n ≡ word f at' n'
 word-at f e d = λ i. word f (e i) (d i)
@@ -126,21 +117,31 @@ pub row-le : (x : Scan) → latchedRow x ≤ 128
 unfolding latchedRow
 row-le x = cond-le (eqb (x .row) (x .frame .duty)) (omega arith) (omega arith)
 
+-- a row's page is whole
+page-length : (ram : List ℕ) (row : ℕ) → length ram ≡ 4096 → row ≤ 128 → (row ≡ 128 → ⊥) → length (pageOf ram (row / 8)) ≡ 256
+page-length ram row whole l other =
+    let fits : row / 8 * 256 + 256 ≤ length ram = omega arith in
+    length-take-le 256 (drop (row / 8 * 256) ram) (rw length-drop (omega arith))
+
+pub bits-at : (row : ℕ) (ram icons : List ℕ) → row ≤ 128 → length ram ≡ 4096 → length icons ≡ 256 → AreBits (bitsAt row ram icons)
+bits-at row ram icons l whole icons-whole = go (eqb row 128) refl
+  where
+    go : (t : Bool) → eqb row 128 ≡ t → AreBits (cond t (rowBits icons 0) (rowBits (pageOf ram (row / 8)) (row % 8)))
+    go true h = are-bits icons 0 icons-whole
+    go false h = are-bits (pageOf ram (row / 8)) (row % 8) (page-length ram row whole l (eqb-false row 128 h))
+
 module _ (x : Scan) (s : Settings) (ram icons : List ℕ) (whole : length ram ≡ 4096) (icons-whole : length icons ≡ 256) where
   from-bits : rowWords (latchedRow x) (activeShades x s) (s .«segment_reverse») ram icons ≡ presentLatch x s ram icons
   from-bits = go (eqb (latchedRow x) 128) refl
     where
       go : (t : Bool) → eqb (latchedRow x) 128 ≡ t
-          → cond t (words (rowActive (activeShades x s) (rowBits icons 0) (s .«segment_reverse»)))
-          (words (rowActive (activeShades x s) (rowBits (pageOf ram (latchedRow x / 8)) (latchedRow x % 8)) (s .«segment_reverse»)))
-          ≡ presentLatch x s ram icons
+          → words (rowActive (activeShades x s) (cond t (rowBits icons 0) (rowBits (pageOf ram (latchedRow x / 8)) (latchedRow x % 8))) (s .«segment_reverse»)) ≡ presentLatch x s ram icons
       go true h =
           (λ i. words (λ (k : ℕ). active-read x s icons 0 icons-whole k i))
           ∙ latch-of-icons x s ram icons (eqb-true (latchedRow x) 128 h)
       go false h =
           let other = eqb-false (latchedRow x) 128 h in
-          let fits : latchedRow x / 8 * 256 + 256 ≤ length ram = omega (arith, row-le x, other, whole) in
-          let page : length (pageOf ram (latchedRow x / 8)) ≡ 256 = length-take-le 256 (drop (latchedRow x / 8 * 256) ram) (rw length-drop (omega arith)) in
+          let page = page-length ram (latchedRow x) whole (row-le x) other in
           (λ i. words (λ (k : ℕ). active-read x s (pageOf ram (latchedRow x / 8)) (latchedRow x % 8) page k i))
           ∙ latch-of-ram x s ram icons (latchedRow x) 256 refl other refl
 

@@ -12,7 +12,9 @@ pub mod Shades
 pub mod Latches
 pub mod Images
 pub mod Runs
+mod Packing
 mod Steady
+pub mod Usual
 pub mod Drives
 pub mod Held
 pub mod Answers

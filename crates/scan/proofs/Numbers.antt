@@ -111,6 +111,10 @@ pub flips-none : (lines count : ℕ) → (lines ≡ 0) ⊎ (count < lines) → c
 flips-none lines count (inl z) = rw (eq-eqb lines 0 z)
 flips-none lines count (inr h) = rw (div-eq-of-lt h) (cond-same (eqb lines 0) 0)
 
+pub count-none : (lines count : ℕ) → (lines ≡ 0) ⊎ (count < lines) → cond (eqb lines 0) count (count % lines) ≡ count
+count-none lines count (inl z) = rw (eq-eqb lines 0 z)
+count-none lines count (inr h) = rw (mod-eq-of-lt h) (cond-same (eqb lines 0) count)
+
 pub beq-true : (a b : Bool) → Bool·beq a b ≡ true → a ≡ b
 beq-true true true h = refl
 beq-true false false h = refl

@@ -174,6 +174,16 @@ module _ (x : Scan) (s : Settings) (v : Valid x) (c : Clock) (running : x .ticki
       go false e = e
       go true e = absurd (omega (arith, counts-edge c (x .ticking .rate) (lcd-bounds (x .ticking .rate) (v .lcd)) below now (m + 1) (leb-true _ _ e)))
 
+  -- the first of them
+  starts : Ok x s zero
+  starts = within x s v (raw now + 1) zero (limit-pos x s v (raw now + 1) (omega arith))
+
+  pub due-none : edges ≡ 0 → due x now ≡ false
+  due-none e = rw (none-counted x s v) (due-no zero starts (omega arith))
+
+  pub due-some : (edges ≡ 0 → ⊥) → due x now ≡ true
+  due-some z = rw (none-counted x s v) (due-yes zero starts (omega (arith, z)))
+
   -- counting with a limit up to which no setting changes: the smaller of the edges and the limit at once
   count-limit : (limit : ℕ) → ((m : ℕ) → m < limit → Ok x s m) → countFor limit x s now ≡ whole x s (min edges limit)
   count-limit limit ok = go (leb limit edges) refl

@@ -12,7 +12,7 @@ use borrow.Author.Tests.{le-leb, lt-leb, leb-true, leb-false}
 use Rattle.clock.specs.declared.rate.Rate.{Rate}
 use Rattle.clock.proofs.Laws.{moved-moved}
 use Rattle.clock.proofs.Rates.{same-refl}
-use Rattle.scan.specs.Closed.{quanta, tickedBy, flipped, flipsIn, countIn, inversionIn, endedRows, endedFrames, after, closed}
+use Rattle.scan.specs.Closed.{quanta, tickedBy, flipped, flipsIn, countIn, inversionIn, inversionOn, onward, endedRows, endedFrames, after, closed}
 use Rattle.scan.specs.Quantum.{rowEnds, frameEnds, linesEnd, flips, countOn, inversionAfter, frameAfter, ticked, tickedTo, quantum}
 use Rattle.scan.specs.Settings.{pwmOf, frcCountOf, frameOf, rowsIn, rateOf}
 use Rattle.scan.specs.State.{rows}
@@ -34,34 +34,13 @@ pub record RowSettled (x : Scan) (s : Settings) : Type 0 where
 unfoldable pub rateAfter : Scan → Settings → ℕ → Rate
 rateAfter x s f = rateOf s (rowsIn (cond (eqb f 0) (x .frame) (frameOf s)))
 
--- the inversion with its lines in force
-heldInversion : Inversion → (e f : ℕ) → Inversion
-heldInversion i e f = record {
-  lines = i .lines;
-  count = countIn (i .lines) (i .count) e;
-  inverted = flipped (i .inverted) (flipsIn (i .lines) (i .count) e f);
-}
-
--- `after` while all that the scan had is in force
-held : Scan → Ticking → Bool → (t r e f : ℕ) → Scan
-held x k b t r e f = record {
-  ticking = k;
-  latch = record { segments = x .latch .segments; latched = b };
-  frame = x .frame;
-  pwm = x .pwm;
-  row = r;
-  step = t;
-  frc = (x .frc + f) % x .frame .«frc_count»;
-  inversion = heldInversion (x .inversion) e f;
-}
-
 via : {A B C : Type 0} → (B → C) → A ⊎ B → A ⊎ C
 via g (inl a) = inl a
 via g (inr b) = inr (g b)
 
 -- a row's end on an inversion with its lines in force
-inversion-next : (i : Inversion) (lines e f : ℕ) (ended : Bool) → inversionAfter (heldInversion i e f) lines true ended ≡ inversionIn i lines (e + 1) (cond ended (f + 1) f)
-unfolding inversionAfter inversionIn heldInversion flips countOn linesEnd
+inversion-next : (i : Inversion) (lines e f : ℕ) (ended : Bool) → inversionAfter (inversionOn i e f) lines true ended ≡ inversionIn i lines (e + 1) (cond ended (f + 1) f)
+unfolding inversionAfter inversionIn inversionOn flips countOn linesEnd
 inversion-next i lines e f ended = simp not-zero (λ j. record {
   lines = lines;
   count = cond (eqb (i .lines) lines) (count-next (i .lines) (i .count) e j) 0;
@@ -73,16 +52,16 @@ module _ (x : Scan) (s : Settings) (v : Valid x) (k : Ticking) (b : Bool) (t r e
   unfolding frameOf
   frcs = via (λ h. ap (λ (g : Frame). g .«frc_count») h) fo
 
-  inversion-held : inversionIn (x .inversion) (s .«inversion_lines») e f ≡ heldInversion (x .inversion) e f
-  unfolding inversionIn heldInversion
+  inversion-held : inversionIn (x .inversion) (s .«inversion_lines») e f ≡ inversionOn (x .inversion) e f
+  unfolding inversionIn inversionOn
   inversion-held = λ i. record {
     lines = keep e (via (λ h. h .lines) ro) i;
     count = count-held (x .inversion .lines) (s .«inversion_lines») (x .inversion .count) e (v .inversion .count-below) (via (λ h. h .lines) ro) i;
     inverted = flipped (x .inversion .inverted) (flipsIn (x .inversion .lines) (x .inversion .count) e f);
   }
 
-  flat : after x s k b t r e f ≡ held x k b t r e f
-  unfolding after held
+  pub flat : after x s k b t r e f ≡ onward x k b t r e f
+  unfolding after onward
   flat = λ i. record {
     ticking = k;
     latch = record { segments = x .latch .segments; latched = b };
@@ -99,12 +78,12 @@ module _ (x : Scan) (s : Settings) (v : Valid x) (k : Ticking) (b : Bool) (t r e
   unfolding rateAfter
   rate-held = λ i. rateOf s (rowsIn (keep f fo i))
 
-  inside : t + 1 < x .pwm → quantum (held x k b t r e f) s ≡ held x (tickedTo k (rateOf s (rows x))) false (t + 1) r e f
-  unfolding quantum inversionAfter flips frameAfter frameEnds rowEnds held
+  inside : t + 1 < x .pwm → quantum (onward x k b t r e f) s ≡ onward x (tickedTo k (rateOf s (rows x))) false (t + 1) r e f
+  unfolding quantum inversionAfter flips frameAfter frameEnds rowEnds onward
   inside h = simp (lt-leb (x .pwm) (t + 1) h, cond-same)
 
-  row-end : x .pwm ≤ t + 1 → r + 1 < rows x → quantum (held x k b t r e f) s ≡ after x s (tickedTo k (rateOf s (rows x))) false 0 (r + 1) (e + 1) f
-  unfolding quantum frameAfter frameEnds rowEnds held after
+  row-end : x .pwm ≤ t + 1 → r + 1 < rows x → quantum (onward x k b t r e f) s ≡ after x s (tickedTo k (rateOf s (rows x))) false 0 (r + 1) (e + 1) f
+  unfolding quantum frameAfter frameEnds rowEnds onward after
   row-end h g = simp (le-leb (x .pwm) (t + 1) h, lt-leb (rows x) (r + 1) g, not-zero) (λ i. record {
     ticking = tickedTo k (rateOf s (rows x));
     latch = record { segments = x .latch .segments; latched = false };
@@ -116,8 +95,8 @@ module _ (x : Scan) (s : Settings) (v : Valid x) (k : Ticking) (b : Bool) (t r e
     inversion = inversion-next (x .inversion) (s .«inversion_lines») e f false i;
   })
 
-  frame-end : x .pwm ≤ t + 1 → rows x ≤ r + 1 → quantum (held x k b t r e f) s ≡ after x s (tickedTo k (rateAfter x s (f + 1))) false 0 0 (e + 1) (f + 1)
-  unfolding quantum frameAfter frameEnds rowEnds held after rateAfter
+  frame-end : x .pwm ≤ t + 1 → rows x ≤ r + 1 → quantum (onward x k b t r e f) s ≡ after x s (tickedTo k (rateAfter x s (f + 1))) false 0 0 (e + 1) (f + 1)
+  unfolding quantum frameAfter frameEnds rowEnds onward after rateAfter
   frame-end h g = simp (le-leb (x .pwm) (t + 1) h, le-leb (rows x) (r + 1) g, not-zero) (λ i. record {
     ticking = tickedTo k (rateOf s (rowsIn (frameOf s)));
     latch = record { segments = x .latch .segments; latched = false };
@@ -226,7 +205,7 @@ module _ (x : Scan) (s : Settings) (v : Valid x) where
         b : Bool
         b = latchIn x n
 
-        flattened : quantum (whole x s n) s ≡ quantum (held x k b t r e f) s
+        flattened : quantum (whole x s n) s ≡ quantum (onward x k b t r e f) s
         flattened = ap (λ (y : Scan). quantum y s) (flat x s v k b t r e f (ok .row-ok) (ok .frame-ok))
 
         go : (a : Bool) → leb (x .pwm) (t + 1) ≡ a → (c : Bool) → leb (rows x) (r + 1) ≡ c → quantum (whole x s n) s ≡ whole x s (suc n)

@@ -1,15 +1,17 @@
 -- What the contracts of private functions cite: n quanta at once by division and remainder (src/closed.rt), a piece as
--- src/count.rt answers it, the number of a check (src/check.rt), what a byte leaves as it is (src/byte.rt), and a row's bits
--- with the activity and the level of what two of them show. Nothing here is a rule; the laws show that it comes to what the
--- rules say.
+-- src/count.rt answers it, the number of a check (src/check.rt), what a byte leaves as it is (src/byte.rt), a row's bits with
+-- the activity and the level of what two of them show, and their planes in words (src/planes.rt, src/latch.rt). Nothing here
+-- is a rule; the laws show that it comes to what the rules say.
 use Prim.Native.Nat.{ℕ, zero, suc, _+_, _-_, _*_, _/_, _%_, _<_}
 use mathlib.Core.Bool.{Bool, true, false, cond, not, _&&_, _||_, Bool·beq}
 use mathlib.Core.List.{List, [], _∷_}
 use mathlib.Core.Option.{Option, none, some}
 use lib.Dec.{ltb, eqb}
+use lib.Bits.{bitAnd, bitXor}
 use lib.ListN.{getD}
 use Rattle.clock.specs.declared.time.Time.{Time}
 use Rattle.clock.specs.declared.rate.Rate.{Rate}
+use Rattle.clock.specs.declared.edges.Clock.{Clock}
 use Rattle.clock.specs.Rate.{sameRate}
 use Rattle.clock.specs.Edges.{started, movedBy, edgesTo}
 use Rattle.scan.specs.declared.settings.Settings.{Settings}
@@ -23,9 +25,9 @@ use Rattle.scan.specs.declared.run.Running.{Running}
 use Rattle.scan.specs.Settings.{pwmOf, frcCountOf, frameOf}
 use Rattle.scan.specs.State.{rows}
 use Rattle.scan.specs.Quantum.{quantum}
-use Rattle.scan.specs.Count.{due, limitWith, piece}
+use Rattle.scan.specs.Count.{due, rowSame, frameSame, rateSame, limitWith, piece}
 use Rattle.scan.specs.Shade.{columnOf, bitOf, pageOf}
-use Rattle.scan.specs.Latch.{latchedRow, shadeActive, words, affects}
+use Rattle.scan.specs.Latch.{latchedRow, shadeActive, word, words, affects}
 use Rattle.scan.specs.Image.{upTo, levelOf}
 
 -- the refusal of a scan's check, by its number: 0 where it passes
@@ -143,6 +145,47 @@ unfoldable pub closed : Scan → Settings → Ticking → Bool → ℕ → Scan
 closed x s k b n =
     after x s k b ((x .step + n) % x .pwm) ((x .row + endedRows x n) % rows x) (endedRows x n) (endedFrames x n)
 
+-- the inversion e ended rows and f ended frames later, its lines in force
+unfoldable pub inversionOn : Inversion → (e f : ℕ) → Inversion
+inversionOn i e f = record {
+  lines = i .lines;
+  count = countIn (i .lines) (i .count) e;
+  inverted = flipped (i .inverted) (flipsIn (i .lines) (i .count) e f);
+}
+
+-- `after` while all that the scan had is in force
+unfoldable pub onward : Scan → Ticking → Bool → (t r e f : ℕ) → Scan
+onward x k b t r e f = record {
+  ticking = k;
+  latch = record { segments = x .latch .segments; latched = b };
+  frame = x .frame;
+  pwm = x .pwm;
+  row = r;
+  step = t;
+  frc = (x .frc + f) % x .frame .«frc_count»;
+  inversion = inversionOn (x .inversion) e f;
+}
+
+-- e row ends later at step t, with a clock moved on at the same rate, and n quanta later
+unfoldable pub rowsOn : Scan → Clock → (t e : ℕ) → Scan
+rowsOn x c t e = onward x (record { clock = ScanClock.Running c; rate = x .ticking .rate }) false t ((x .row + e) % rows x) e ((x .row + e) / rows x)
+
+unfoldable pub movedOn : Scan → Clock → ℕ → Scan
+movedOn x c n = rowsOn x c ((x .step + n) % x .pwm) (endedRows x n)
+
+-- the scan with this clock and these counters
+abbrev pub withCounters : Scan → Clock → (t r f : ℕ) → Inversion → Scan
+withCounters x c t r f i = record {
+  ticking = record { clock = ScanClock.Running c; rate = x .ticking .rate };
+  latch = record { segments = x .latch .segments; latched = false };
+  frame = x .frame;
+  pwm = x .pwm;
+  row = r;
+  step = t;
+  frc = f;
+  inversion = i;
+}
+
 -- the piece rule's limit in 64 bits, for which all is the largest
 abbrev pub limitIn : Scan → Settings → ℕ
 limitIn x s = limitWith x s 18446744073709551615
@@ -183,11 +226,47 @@ activeShades x s =
 abbrev pub rowActive : (active : List Bool) → (bits : List ℕ) → (reversed : Bool) → (segment : ℕ) → Bool
 rowActive active bits reversed segment = getD active (planesIn bits (columnOf reversed segment)) false
 
--- the latch of a row of RAM, or of the icons, row 128
+-- the high plane's bit of a row's segments, and the low one's
+abbrev pub inHigh : (bits : List ℕ) → (reversed : Bool) → (segment : ℕ) → Bool
+inHigh bits reversed segment = eqb (getD bits (2 * columnOf reversed segment) 0) 1
+
+abbrev pub inLow : (bits : List ℕ) → (reversed : Bool) → (segment : ℕ) → Bool
+inLow bits reversed segment = eqb (getD bits (2 * columnOf reversed segment + 1) 0) 1
+
+-- bits as digits of base 256
+abbrev pub twoFrom : (bits : List ℕ) → (from : ℕ) → ℕ
+twoFrom bits from = getD bits from 0 + getD bits (from + 1) 0 * 256
+
+abbrev pub fourFrom : (bits : List ℕ) → (from : ℕ) → ℕ
+fourFrom bits from = twoFrom bits from + twoFrom bits (from + 2) * 65536
+
+abbrev pub eightFrom : (bits : List ℕ) → (from : ℕ) → ℕ
+eightFrom bits from = fourFrom bits from + fourFrom bits (from + 4) * 4294967296
+
+-- both planes of eight segments, the high one in the lower byte
+unfoldable pub planesFrom : (bits : List ℕ) → (reversed : Bool) → (segment : ℕ) → ℕ
+planesFrom bits reversed segment = word (inHigh bits reversed) segment 8 + word (inLow bits reversed) segment 8 * 256
+
+-- all 64 bits, or none
+abbrev pub maskOf : Bool → ℕ
+maskOf on = cond on 18446744073709551615 0
+
+-- the bits of `on` where `by` has one, else those of `off`
+unfoldable pub pick : (by on off : ℕ) → ℕ
+pick by on off = bitXor off (bitAnd by (bitXor on off))
+
+-- the activity of a word's segments, from their planes
+abbrev pub activeWord : (high low : ℕ) → (active : List Bool) → ℕ
+activeWord high low active =
+    pick high (pick low (maskOf (getD active 3 false)) (maskOf (getD active 2 false))) (pick low (maskOf (getD active 1 false)) (maskOf (getD active 0 false)))
+
+-- the bits of a row of RAM, or of the icons, row 128
+abbrev pub bitsAt : (row : ℕ) → (ram icons : List ℕ) → List ℕ
+bitsAt row ram icons = cond (eqb row 128) (rowBits icons 0) (rowBits (pageOf ram (row / 8)) (row % 8))
+
+-- the latch of such a row
 abbrev pub rowWords : (row : ℕ) → (active : List Bool) → (reversed : Bool) → (ram icons : List ℕ) → List ℕ
-rowWords row active reversed ram icons =
-    cond (eqb row 128) (words (rowActive active (rowBits icons 0) reversed))
-    (words (rowActive active (rowBits (pageOf ram (row / 8)) (row % 8)) reversed))
+rowWords row active reversed ram icons = words (rowActive active (bitsAt row ram icons) reversed)
 
 -- the levels in the image of what the planes 0 to 3 show
 unfoldable pub levelsOf : Settings → List ℕ
@@ -216,6 +295,14 @@ settled x s Running.Begins = false
 settled x s Running.Continues = linesStay (x .inversion) s && Bool·beq (hasClock (x .ticking .clock)) (eqb (s .«oscillator_control» % 2) 0)
 settled x s Running.Stands = linesStay (x .inversion) s && not (hasClock (x .ticking .clock))
 
--- nor is the latch to be kept before it
+-- the latch need not be kept before it
+abbrev pub staysShown : Scan → DataPage → Bool
+staysShown x page = x .latch .latched || not (affects page (latchedRow x))
+
+-- both
 abbrev pub steady : Scan → Settings → DataPage → Running → Bool
-steady x s page running = settled x s running && (x .latch .latched || not (affects page (latchedRow x)))
+steady x s page running = settled x s running && staysShown x page
+
+-- no end of a row or frame takes another setting, and the rate is that of the settings
+abbrev pub inForce : Scan → Settings → Bool
+inForce x s = rateSame x s && rowSame x s && frameSame x s

@@ -10,3 +10,4 @@ pub mod Run
 pub mod Drive
 pub mod Image
 pub mod Closed
+pub mod Quick

@@ -42,7 +42,7 @@ fn lines_stay(inversion: Inversion, settings: Settings) -> bool
 }
 
 // Nothing is left to be begun, ended, started or dropped after a byte.
-fn settled(scan: Scan, settings: Settings, running: Running) -> bool
+pub(crate) fn settled(scan: Scan, settings: Settings, running: Running) -> bool
     ensures { λ r. ⌜ r ≡ settledOf scan settings running ⌝ }
 {
     let ticking = scan.ticking;

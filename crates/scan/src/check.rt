@@ -116,7 +116,7 @@ fn valid_inversion(inversion: Inversion) -> bool
 
 impl Scan {
     // A scan condition of `validate`, or a rate that is no LCD rate: number 4.
-    fn valid(self) -> bool
+    pub(crate) fn valid(self) -> bool
         ensures { λ r. ⌜ r ≡ validScan self ⌝ }
     {
         let ticking = self.ticking;
@@ -161,7 +161,7 @@ impl Scan {
 }
 
 // Number 2: lent memory of other lengths is turned down.
-fn memory_ok(ram: &[u8], icons: &[u8]) -> bool
+pub(crate) fn memory_ok(ram: &[u8], icons: &[u8]) -> bool
     ensures { λ r. ⌜ r ≡ memoryOk (now (ram .entry)) (now (icons .entry)) ⌝ }
 {
     (ram.len() == 4096) & (icons.len() == 256)

@@ -59,7 +59,7 @@ fn count_taken(lines: u8, taken: u8, count: u8, e: u64) -> u8
 }
 
 // The inversion after e ended rows, one at least, and f ended frames.
-fn inversion_taken(inversion: Inversion, lines: u8, e: u64, f: u64) -> Inversion
+pub(crate) fn inversion_taken(inversion: Inversion, lines: u8, e: u64, f: u64) -> Inversion
     requires { ⌜ e < 2 ^ 51 ⌝ }
     ensures { λ r. ⌜ r ≡ inversionTaken inversion lines e f ⌝ }
 {

@@ -48,7 +48,7 @@ struct Piece {
     scan: Scan,
 }
 
-fn row_same(scan: Scan, settings: Settings) -> bool
+pub(crate) fn row_same(scan: Scan, settings: Settings) -> bool
     ensures { λ r. ⌜ r ≡ rowSame scan settings ⌝ }
 {
     let inversion = scan.inversion;
@@ -66,14 +66,14 @@ fn same_frame(a: Frame, b: Frame) -> bool
         & (a.frc_count == b.frc_count)
 }
 
-fn frame_same(scan: Scan, settings: Settings) -> bool
+pub(crate) fn frame_same(scan: Scan, settings: Settings) -> bool
     ensures { λ r. ⌜ r ≡ frameSame scan settings ⌝ }
 {
     let frame = scan.frame;
     same_frame(frame_of(settings), frame)
 }
 
-fn rate_same(scan: Scan, settings: Settings) -> bool
+pub(crate) fn rate_same(scan: Scan, settings: Settings) -> bool
     ensures { λ r. ⌜ r ≡ rateSame scan settings ⌝ }
 {
     let ticking = scan.ticking;

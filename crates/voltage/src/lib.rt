@@ -15,13 +15,13 @@ pub use check::Refusal;
 // The controller's settings that the voltages read, under the names that the controller has.
 pub struct Settings {
     pub contrast: u8,
-    pub contrast_trim: u8,
-    pub otp_control: u8,
     pub regulator: u8,
     pub power_control: u8,
     pub booster: u8,
     pub bias: u8,
     pub temperature_slope: u8,
+    pub contrast_trim: u8,
+    pub otp_control: u8,
 }
 
 // What else the voltages read. `waiting` is the wait after a cold rise of the supply.
@@ -39,15 +39,16 @@ pub enum Level {
 }
 
 // The pump, the target in microvolts, and V0 to V4. Five fields stand for the Rust's array of
-// five, since a struct's array of enums is not covered by the borrow checker.
+// five, since a struct's array of enums is not covered by the borrow checker. Levels that are read
+// one after another lie apart: in pairs they would be loaded before both are stored, which stalls.
 pub struct LcdVoltages {
     pub pump: Level,
     pub target: u32,
     pub v0: Level,
-    pub v1: Level,
     pub v2: Level,
-    pub v3: Level,
     pub v4: Level,
+    pub v1: Level,
+    pub v3: Level,
 }
 
 impl LcdVoltages {

@@ -1,6 +1,7 @@
 -- `ffi::state_words::holds` meets its contract.
 use borrow.Author.Tests.{eq-eqb, ne-eqb}
 use Rattle.ffi.specs.StateWords.{holdsState}
+use Rattle.ffi.proofs.Fits.{fits-hold}
 use borrow.Author.Needs.{needs}
 use Rattle.ffi.proofs.state_words.holds.Statement.{statement}
 use Rattle.ffi.proofs.state_words.holds.Tie as tie
@@ -10,23 +11,11 @@ unfolding holdsState
 returns c = simp (ne-eqb _ _ (c .if1 .taken))
 
 returns-2 : tie.Need-returns-2
-unfolding holdsState
 returns-2 c =
-    let at-power-fits = c .before in
-    let at-analog-fits = at-power-fits .before in
-    let at-display-fits = at-analog-fits .before in
-    let at-scan-fits = at-display-fits .before in
-    let at-if1 = at-scan-fits .before in
-    simp (eq-eqb _ _ (at-if1 .if1 .left), at-scan-fits .scan-fits .ensures, at-display-fits .display-fits .ensures, at-analog-fits .analog-fits .ensures, at-power-fits .power-fits .ensures, c .line-fits .ensures)
+    let at-bytes-fit = c .before in
+    let at-flags-fit = at-bytes-fit .before in
+    let at-if1 = at-flags-fit .before in
+    fits-hold _ (eq-eqb _ _ (at-if1 .if1 .left)) (at-flags-fit .flags-fit .ensures) (at-bytes-fit .bytes-fit .ensures) (c .wider-fit .ensures)
 
 pub holds-spec : {M : Type 1} → statement M
-holds-spec =
-    tie.close
-    (tie.spec
-    returns
-    (λ c κs. search needs)
-    (λ c κs. search needs)
-    (λ c κs. search needs)
-    (λ c κs. search needs)
-    (λ c κs. search needs)
-    returns-2)
+holds-spec = tie.close (tie.spec returns (λ c κs. search needs) (λ c κs. search needs) (λ c κs. search needs) returns-2)

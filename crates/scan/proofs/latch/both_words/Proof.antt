@@ -1,76 +1,113 @@
 -- `scan::latch::both_words` meets its contract.
-use Prim.Native.Nat.{_+_, _-_, _≤_}
+use Prim.Native.Nat.{_+_, _-_, _*_, _≤_}
 use mathlib.Core.Path.{_≡_, refl, _∙_}
 use native.Mathlib.Omega.{arith}
-use Rattle.scan.specs.Closed.{rowActive}
+use borrow.Author.Needs.{needs}
+use Rattle.scan.specs.Closed.{inHigh, inLow}
 use Rattle.scan.specs.Latch.{word}
-use Rattle.scan.proofs.Latches.{word-more, word-fits, word-at}
+use Rattle.scan.proofs.Latches.{word-at}
+use Rattle.scan.proofs.Packing.{word-room, low-lt, high-more, low-more, active-word}
 use Rattle.scan.proofs.latch.both_words.Statement.{statement}
 use Rattle.scan.proofs.latch.both_words.Tie as tie
 
 abbrev Inv-loop : tie.InvT-loop
-Inv-loop bits reversed active low₀ high₀ left₀ low high left =
-    let f = rowActive active bits reversed in
-    (left ≤ 64) × ((low ≡ word f left (64 - left)) × (high ≡ word f (left + 64) (64 - left)))
+Inv-loop bits active reversed high₀ low₀ high2₀ low2₀ left₀ high low high2 low2 left =
+    let h = inHigh bits reversed in
+    let l = inLow bits reversed in
+    (left ≤ 8)
+    × ((high ≡ word h (8 * left) (64 - 8 * left))
+    × ((low ≡ word l (8 * left) (64 - 8 * left))
+    × ((high2 ≡ word h (8 * left + 64) (64 - 8 * left))
+    × (low2 ≡ word l (8 * left + 64) (64 - 8 * left)))))
 
 abbrev μ-loop : tie.MeasureT-loop
-μ-loop bits reversed active low₀ high₀ left₀ low high left = left
+μ-loop bits active reversed high₀ low₀ high2₀ low2₀ left₀ high low high2 low2 left = left
 
 loop-holds : tie.Need-loop-holds Inv-loop μ-loop
 unfolding word
-loop-holds c = (omega arith, (refl, refl))
+loop-holds c = (omega arith, (refl, (refl, (refl, refl))))
 
 sub-left : tie.Need-sub-left Inv-loop μ-loop
 sub-left c = omega arith
 
-planes-requires : tie.Need-planes-requires Inv-loop μ-loop
-planes-requires c κs = (c .before .before .pre, omega arith)
+mul-eight-planes : tie.Need-mul-eight-planes Inv-loop μ-loop
+mul-eight-planes c = omega arith
 
-add-planes : tie.Need-add-planes Inv-loop μ-loop
-add-planes c = omega arith
+eight-planes-requires : tie.Need-eight-planes-requires Inv-loop μ-loop
+eight-planes-requires c κs = (c .before .before .pre, omega arith)
 
-planes-requires-2 : tie.Need-planes-requires-2 Inv-loop μ-loop
-planes-requires-2 c κs = (c .before .before .before .pre, omega arith)
+mul-eight-planes-2 : tie.Need-mul-eight-planes-2 Inv-loop μ-loop
+mul-eight-planes-2 c = omega arith
 
-array-read-pushed : tie.Need-array-read-pushed Inv-loop μ-loop
-array-read-pushed c = c .before .planes .ensures .1
+add-eight-planes : tie.Need-add-eight-planes Inv-loop μ-loop
+add-eight-planes c = omega arith
 
-pushed-requires : tie.Need-pushed-requires Inv-loop μ-loop
-pushed-requires c κs = rw (c .before .before .before .loop .inv .1 .0) (word-fits _ _ _ (omega arith))
+eight-planes-requires-2 : tie.Need-eight-planes-requires-2 Inv-loop μ-loop
+eight-planes-requires-2 c κs = (c .before .before .before .pre, omega arith)
 
-array-read-pushed-2 : tie.Need-array-read-pushed-2 Inv-loop μ-loop
-array-read-pushed-2 c = c .before .planes2 .ensures .1
+with-eight-requires : tie.Need-with-eight-requires Inv-loop μ-loop
+with-eight-requires c κs = (rw (c .before .before .before .loop .inv .1 .0) (word-room _ _ _ (omega arith)), omega arith)
 
-pushed-requires-2 : tie.Need-pushed-requires-2 Inv-loop μ-loop
-pushed-requires-2 c κs = rw (c .before .before .before .before .loop .inv .1 .1) (word-fits _ _ _ (omega arith))
+with-eight-requires-2 : tie.Need-with-eight-requires-2 Inv-loop μ-loop
+with-eight-requires-2 c κs =
+    let at-first = c .before .before in
+    (rw (at-first .before .before .loop .inv .1 .1 .0) (word-room _ _ _ (omega arith)), low-lt _ _ _ (at-first .eight-planes .ensures))
+
+with-eight-requires-3 : tie.Need-with-eight-requires-3 Inv-loop μ-loop
+with-eight-requires-3 c κs = (rw (c .before .before .before .before .before .loop .inv .1 .1 .1 .0) (word-room _ _ _ (omega arith)), omega arith)
+
+with-eight-requires-4 : tie.Need-with-eight-requires-4 Inv-loop μ-loop
+with-eight-requires-4 c κs =
+    let at-second = c .before .before .before in
+    (rw (at-second .before .before .before .loop .inv .1 .1 .1 .1) (word-room _ _ _ (omega arith)), low-lt _ _ _ (at-second .eight-planes2 .ensures))
 
 loop-less : tie.Need-loop-less Inv-loop μ-loop
 loop-less c = omega arith
 
 loop-again : tie.Need-loop-again Inv-loop μ-loop
 loop-again c =
-    let at-planes2 = c .before .before in
-    let at-planes = at-planes2 .before in
-    let at-loop = at-planes .before .before in
+    let at-low = c .before .before in
+    let at-high = at-low .before in
+    let at-second = at-high .before in
+    let at-first = at-second .before in
+    let at-loop = at-first .before .before in
     let a = at-loop .before .args in
-    let f = rowActive (a .t2) (a .bits .now) (a .reversed) in
-    let i = at-loop .loop .inv .1 in (
+    let i = at-loop .loop .inv .1 in
+    let first = at-first .eight-planes .ensures in
+    let second = at-second .eight-planes2 .ensures in (
       omega arith,
       (
-        rw (c .before .pushed .ensures, i .0, at-planes .planes .ensures .0) (word-more f _ _ _ _ (omega arith) (omega arith)),
-        rw (c .pushed2 .ensures, i .1, at-planes2 .planes2 .ensures .0) (word-more f _ _ _ _ (omega arith) (omega arith)),
+        rw (at-high .with-eight .ensures) (high-more (a .bits .now) (a .reversed) _ _ _ _ first (i .0) (omega arith) (omega arith)),
+        (
+          rw (at-low .with-eight2 .ensures) (low-more (a .bits .now) (a .reversed) _ _ _ _ first (i .1 .0) (omega arith) (omega arith)),
+          (
+            rw (c .before .with-eight3 .ensures) (high-more (a .bits .now) (a .reversed) _ _ _ _ second (i .1 .1 .0) (omega arith) (omega arith)),
+            rw (c .with-eight4 .ensures) (low-more (a .bits .now) (a .reversed) _ _ _ _ second (i .1 .1 .1) (omega arith) (omega arith)),
+          ),
+        ),
       ),
     )
 
+active-word-requires : tie.Need-active-word-requires Inv-loop μ-loop
+active-word-requires c κs = search needs
+
+active-word-requires-2 : tie.Need-active-word-requires-2 Inv-loop μ-loop
+active-word-requires-2 c κs = search needs
+
 returns : tie.Need-returns Inv-loop μ-loop
 returns c =
-    let at-loop = c .before in
-    let a = at-loop .before .args in
-    let f = rowActive (a .t2) (a .bits .now) (a .reversed) in
-    let l = at-loop .loop in
-    let low : l .low ≡ word f 0 64 = l .inv .1 .0 ∙ word-at f (omega arith) (omega arith) in
-    let high : l .high ≡ word f 64 64 = l .inv .1 .1 ∙ word-at f (omega arith) (omega arith) in
-    simp (low, high)
+    let at-loop = c .before .before .before in
+    let start = at-loop .before in
+    let a = start .args in
+    let h = inHigh (a .bits .now) (a .reversed) in
+    let l = inLow (a .bits .now) (a .reversed) in
+    let i = at-loop .loop .inv .1 in
+    let high = i .0 ∙ word-at h {at' = 0} {n' = 64} (omega arith) (omega arith) in
+    let low = i .1 .0 ∙ word-at l {at' = 0} {n' = 64} (omega arith) (omega arith) in
+    let high2 = i .1 .1 .0 ∙ word-at h {at' = 64} {n' = 64} (omega arith) (omega arith) in
+    let low2 = i .1 .1 .1 ∙ word-at l {at' = 64} {n' = 64} (omega arith) (omega arith) in
+    let active = active-word (a .bits .now) (start .pre) (a .reversed) (a .active) in
+    simp (c .before .active-word .ensures, c .active-word2 .ensures, high, low, high2, low2, active 0, active 64)
 
 pub both-words-spec : {M : Type 1} → statement M
 both-words-spec =
@@ -80,13 +117,17 @@ both-words-spec =
     μ-loop
     loop-holds
     sub-left
-    planes-requires
-    add-planes
-    planes-requires-2
-    array-read-pushed
-    pushed-requires
-    array-read-pushed-2
-    pushed-requires-2
+    mul-eight-planes
+    eight-planes-requires
+    mul-eight-planes-2
+    add-eight-planes
+    eight-planes-requires-2
+    with-eight-requires
+    with-eight-requires-2
+    with-eight-requires-3
+    with-eight-requires-4
     loop-less
     loop-again
+    active-word-requires
+    active-word-requires-2
     returns)

@@ -25,15 +25,15 @@ position-of-requires c κs =
     let small = both _ (c .before .in-range .result) (not-false _ (c .if1 .left)) in
     (sym (c .before .in-range .ensures) ∙ small .1, (start .pre, ltb-true _ _ (both (at-is-of-rate .is-of-rate .result) _ (small .0) .1)))
 
-div-result : tie.Need-div-result
-div-result c =
-    let start = c .before .before .before .before .before .before .before .before .before in
+over-requires : tie.Need-over-requires
+over-requires c κs =
+    let start = c .before .before .before .before .before .before .before in
     lcd-bounds (start .args .rate) (start .pre) .denominator-low
 
 returns-2 : tie.Need-returns-2
 unfolding validClock position
 returns-2 c =
-    let at-position-of = c .before .before .before in
+    let at-position-of = c .before .before in
     let at-if1 = at-position-of .before in
     let at-in-range = at-if1 .before in
     let at-is-of-rate = at-in-range .before .before .before in
@@ -41,10 +41,10 @@ returns-2 c =
     let a = start .args in
     let b = lcd-bounds (a .rate) (start .pre) in
     let e = passed {r = at-is-of-rate .is-of-rate .result && _ && at-in-range .in-range .result} refl (at-if1 .if1 .left) in
-    rw (← at-is-of-rate .is-of-rate .ensures, ← at-in-range .in-range .ensures, e, at-position-of .position-of .ensures)
+    rw (← at-is-of-rate .is-of-rate .ensures, ← at-in-range .in-range .ensures, e, c .before .over .ensures, at-position-of .position-of .ensures)
     (ordinal-test (a .self .ordinal) _ (a .rate .denominator) (b .denominator-low))
 
 pub valid-spec : {M : Type 1} → statement M
 valid-spec =
     tie.close
-    (tie.spec (λ c κs. search needs) (λ c κs. search needs) returns position-of-requires div-result returns-2)
+    (tie.spec (λ c κs. search needs) (λ c κs. search needs) returns position-of-requires over-requires returns-2)

@@ -1,0 +1,264 @@
+-- The usual byte: counting with one check of the clock, by one piece with every setting in force, and what the rule leaves of the
+-- byte.
+use Prim.Native.Nat.{ℕ, zero, suc, _+_, _%_, _^_, _≤_, min}
+use mathlib.Core.Bool.{Bool, true, false, cond, not, _&&_, _||_}
+use mathlib.Core.List.{List}
+use mathlib.Core.Option.{Option, none}
+use mathlib.Core.Path.{_≡_, refl, sym, _∙_, ap}
+use native.Mathlib.Omega.{arith}
+use native.Mathlib.Nat.{min-eq-left}
+use Rattle.checks.specs.Checks.{row, unlessRefused}
+use Rattle.checks.proofs.Tests.{both}
+use Rattle.clock.specs.declared.time.Time.{Time}
+use Rattle.clock.specs.declared.check.Refusal.{Refusal}
+use Rattle.clock.specs.declared.edges.Clock.{Clock}
+use Rattle.clock.specs.declared.edges.Passed.{Passed}
+use Rattle.clock.specs.Check.{validClock}
+use Rattle.clock.specs.Edges.{answeredPass, movedBy, edgesTo, passEdges}
+use Rattle.clock.specs.Rate.{sameRate}
+use Rattle.clock.specs.Time.{raw, inRange}
+use Rattle.clock.proofs.Answers.{pass-passed, pass-valid, pass-refused}
+use Rattle.clock.proofs.Rates.{same-refl}
+use Rattle.scan.specs.declared.settings.Settings.{Settings}
+use Rattle.scan.specs.declared.state.Scan.{Scan}
+use Rattle.scan.specs.declared.state.ScanClock.{ScanClock}
+use Rattle.scan.specs.declared.latch.DataPage.{DataPage}
+use Rattle.scan.specs.declared.run.Running.{Running}
+use Rattle.scan.specs.declared.quick.Quick.{Quick}
+use Rattle.scan.specs.Check.{validSettings, validScan, validRunning, checkScan, memoryOk, inOrder, checkLent}
+use Rattle.scan.specs.Count.{due, countTo, piece, rateSame, rowSame, frameSame}
+use Rattle.scan.specs.Latch.{latchedRow, affects, keptLatch, retained}
+use Rattle.scan.specs.State.{rows, withLatch}
+use Rattle.scan.specs.Run.{updated, byteScan}
+use Rattle.scan.specs.Closed.{onward, rowsOn, movedOn, closed, after, inForce, limitIn, tickedBy, staysShown, settled, endedRows, endedFrames}
+use Rattle.scan.specs.Quick.{told, other, checksPass, oneCount, countedQuick, usual, quickByte}
+use Rattle.scan.proofs.Checks.{Valid, Lent, lent, valid-scan, valid-settings, valid-lcd, check-by}
+use Rattle.scan.proofs.Drives.{counted-passes}
+use Rattle.scan.proofs.Due.{due-stopped, counted-none}
+use Rattle.scan.proofs.Pieces.{few, limit-all, within, all-ends, none-after, piece-whole, piece-counts, due-none, due-some}
+use Rattle.scan.proofs.Quanta.{whole, tickingIn, latchIn, Ok, flat, rate-stays, none-counted}
+use Rattle.scan.proofs.Steady.{settled-same}
+
+-- ---- n quanta with every setting in force
+module _ (x : Scan) (s : Settings) (v : Valid x) {c : Clock} (running : x .ticking .clock ≡ ScanClock.Running c) where
+  ticks-on : (n : ℕ) → tickedBy n (ScanClock.Running c) (x .ticking .rate) (x .ticking .rate) ≡ ScanClock.Running (movedBy c (x .ticking .rate) n)
+  unfolding tickedBy
+  ticks-on n = simp (same-refl (x .ticking .rate))
+
+  ticking-on : (n : ℕ) → (n ≡ 0 → ⊥) → Ok x s n → tickingIn x s n ≡ record { clock = ScanClock.Running (movedBy c (x .ticking .rate) n); rate = x .ticking .rate }
+  unfolding tickingIn
+  ticking-on zero z ok = absurd (z refl)
+  ticking-on (suc n) z ok =
+      let same = rate-stays x s v (suc n) ok in
+      (λ j. record { clock = tickedBy (suc n) (running j) (x .ticking .rate) (same j); rate = same j })
+      ∙ ap (λ (k : ScanClock). record { clock = k; rate = x .ticking .rate }) (ticks-on (suc n))
+
+  latch-on : (n : ℕ) → (n ≡ 0 → ⊥) → latchIn x n ≡ false
+  unfolding latchIn
+  latch-on zero z = absurd (z refl)
+  latch-on (suc n) z = refl
+
+  moved-whole : (n : ℕ) → (n ≡ 0 → ⊥) → Ok x s n → whole x s n ≡ movedOn x (movedBy c (x .ticking .rate) n) n
+  unfolding whole closed movedOn rowsOn
+  moved-whole n z ok =
+      let t = (x .step + n) % x .pwm in
+      let r = (x .row + endedRows x n) % rows x in
+      flat x s v (tickingIn x s n) (latchIn x n) t r (endedRows x n) (endedFrames x n) (ok .row-ok) (ok .frame-ok)
+      ∙ (λ j. onward x (ticking-on n z ok j) (latch-on n z j) t r (endedRows x n) (endedFrames x n))
+
+-- ---- a stopped clock
+module _ (x : Scan) (s : Settings) (now : Time) (stopped : x .ticking .clock ≡ ScanClock.Stopped) where
+  pub quick-stopped : told x ≡ countedQuick x s now
+  unfolding countedQuick oneCount validRunning
+  quick-stopped =
+      let d : due x now ≡ false = sym (due-stopped x now stopped) in
+      simp (stopped, d) (ap told (counted-none x s now d))
+
+-- ---- a running one, by its answer to `passed_to`
+module _ (x : Scan) (s : Settings) (now : Time) (pre : (inRange now ≡ true) × ((validSettings s ≡ true) × (validScan x ≡ true))) {c : Clock} (running : x .ticking .clock ≡ ScanClock.Running c) (p : Passed) (answer : answeredPass p ≡ passEdges c (x .ticking .rate) now 18446744073709551615) where
+  running-is : {t : Bool} → validClock c (x .ticking .rate) ≡ t → validRunning (x .ticking .clock) (x .ticking .rate) ≡ t
+  unfolding validRunning
+  running-is h = rw running h
+
+  pub quick-refused : {why : Refusal} → p ≡ Passed.Refused why → other x ≡ countedQuick x s now
+  unfolding countedQuick oneCount
+  quick-refused {why} h = simp (running-is (pass-refused c (x .ticking .rate) now 18446744073709551615 why (sym (ap answeredPass h) ∙ answer) (pre .0) (valid-lcd x (pre .1 .1))))
+
+  module _ {n : ℕ} {m : Clock} (given : p ≡ Passed.Edges n m) where
+    clock-valid : validClock c (x .ticking .rate) ≡ true
+    clock-valid = pass-valid c (x .ticking .rate) now 18446744073709551615 (sym (ap answeredPass given) ∙ answer) (pre .0) (valid-lcd x (pre .1 .1))
+
+    pub quick-check : checkScan x ≡ none
+    quick-check = check-by x (pre .1 .1) (running-is clock-valid)
+
+    abbrev v : Valid x
+    v = valid-scan x quick-check
+
+    all-few : edgesTo c (x .ticking .rate) now ≤ 2 ^ 50
+    all-few = few x s v c running now (pre .0)
+
+    passed-is : p ≡ Passed.Edges (min (edgesTo c (x .ticking .rate) now) 18446744073709551615) (movedBy c (x .ticking .rate) (min (edgesTo c (x .ticking .rate) now) 18446744073709551615))
+    passed-is = pass-passed c (x .ticking .rate) now 18446744073709551615 p answer (pre .0) (v .lcd) clock-valid
+
+    all-counted : min (edgesTo c (x .ticking .rate) now) 18446744073709551615 ≡ edgesTo c (x .ticking .rate) now
+    all-counted = min-eq-left (omega (arith, all-few))
+
+    count : n ≡ edgesTo c (x .ticking .rate) now
+    count = let q = passed-is in let e : n ≡ min (edgesTo c (x .ticking .rate) now) 18446744073709551615 = cc in e ∙ all-counted
+
+    moved : m ≡ movedBy c (x .ticking .rate) n
+    moved = let q = passed-is in let e : m ≡ movedBy c (x .ticking .rate) (min (edgesTo c (x .ticking .rate) now) 18446744073709551615) = cc in e ∙ ap (movedBy c (x .ticking .rate)) (all-counted ∙ sym count)
+
+    pub quick-few : n ≤ 2 ^ 50
+    quick-few = omega (arith, count, all-few)
+
+    pub quick-none : n ≡ 0 → told x ≡ countedQuick x s now
+    unfolding countedQuick oneCount
+    quick-none z =
+        let d : due x now ≡ false = due-none x s v c running now (sym count ∙ z) in
+        simp (running-is clock-valid, d) (ap told (counted-none x s now d))
+
+    module _ (z : n ≡ 0 → ⊥) where
+      is-due : due x now ≡ true
+      is-due = due-some x s v c running now (λ e. z (count ∙ e))
+
+      pub quick-other : inForce x s ≡ false → other x ≡ countedQuick x s now
+      unfolding countedQuick oneCount
+      quick-other h = simp (running-is clock-valid, is-due, h)
+
+      module _ (h : inForce x s ≡ true) where
+        same-rate : rateSame x s ≡ true
+        same-rate = both (rateSame x s) (rowSame x s) (both (rateSame x s && rowSame x s) (frameSame x s) h .0) .0
+
+        same-row : rowSame x s ≡ true
+        same-row = both (rateSame x s) (rowSame x s) (both (rateSame x s && rowSame x s) (frameSame x s) h .0) .1
+
+        same-frame : frameSame x s ≡ true
+        same-frame = both (rateSame x s && rowSame x s) (frameSame x s) h .1
+
+        limit : limitIn x s ≡ 18446744073709551615
+        limit = limit-all x s 18446744073709551615 same-rate same-row same-frame
+
+        -- one piece counts all
+        one-piece : countTo x s now ≡ piece x s now
+        one-piece =
+            sym (piece-counts s (valid-settings s (pre .1 .0)) now (pre .0) x v)
+            ∙ sym (counted-none (piece x s now) s now (none-after s now (pre .0) x v (all-ends s now (pre .0) x v same-rate same-row same-frame)))
+
+        counted : countTo x s now ≡ movedOn x m n
+        counted =
+            one-piece
+            ∙ piece-whole x s v c running now (omega (arith, all-few))
+            ∙ ap (whole x s) (ap (min (edgesTo c (x .ticking .rate) now)) limit ∙ all-counted ∙ sym count)
+            ∙ moved-whole x s v running n z (within x s v 18446744073709551615 n (omega (arith, limit, quick-few)))
+            ∙ ap (λ (d : Clock). movedOn x d n) (sym moved)
+
+        pub quick-moved : {y : Scan} → y ≡ movedOn x m n → told y ≡ countedQuick x s now
+        unfolding countedQuick oneCount
+        quick-moved e = simp (running-is clock-valid, is-due, h) (ap told (e ∙ sym counted))
+
+-- ---- the byte
+pub shown-stays : (x : Scan) (s : Settings) (page : DataPage) (ram icons : List ℕ) → staysShown x page ≡ true → x ≡ retained x s page ram icons
+unfolding retained
+shown-stays x s page ram icons h = rw h
+
+record Checked (x : Scan) (s : Settings) (now : Time) (ram icons : List ℕ) : Type 0 where
+  memory : memoryOk ram icons ≡ true
+  in-range : inRange now ≡ true
+  settings-ok : validSettings s ≡ true
+  scan-ok : validScan x ≡ true
+
+checked : (x : Scan) (s : Settings) (now : Time) (ram icons : List ℕ) → checksPass x s now ram icons ≡ true → Checked x s now ram icons
+unfolding checksPass
+checked x s now ram icons h =
+    let a = both (memoryOk ram icons && inRange now && validSettings s) (validScan x) h in
+    let b = both (memoryOk ram icons && inRange now) (validSettings s) (a .0) in
+    let c = both (memoryOk ram icons) (inRange now) (b .0) in
+    record { memory = c .0; in-range = c .1; settings-ok = b .1; scan-ok = a .1 }
+
+module _ (x : Scan) (s : Settings) (now : Time) (ram icons : List ℕ) (h : checksPass x s now ram icons ≡ true) where
+  pub quick-count-pre : (inRange now ≡ true) × ((validSettings s ≡ true) × (validScan x ≡ true))
+  quick-count-pre = let k = checked x s now ram icons h in (k .in-range, (k .settings-ok, k .scan-ok))
+
+  pub quick-lengths : Lent ram icons
+  quick-lengths = lent ram icons (checked x s now ram icons h .memory)
+
+settled-retained : (x : Scan) (s : Settings) (page : DataPage) (running : Running) (ram icons : List ℕ) → settled (retained x s page ram icons) s running ≡ settled x s running
+unfolding retained keptLatch withLatch settled
+settled-retained x s page running ram icons = go (x .latch .latched || not (affects page (latchedRow x))) running
+  where
+    go : (t : Bool) (running : Running) → settled (cond t x (keptLatch x s ram icons)) s running ≡ settled x s running
+    go true running = refl
+    go false Running.Begins = refl
+    go false Running.Continues = refl
+    go false Running.Stands = refl
+
+module _ (x : Scan) (s : Settings) (now : Time) (running : Running) (ram icons : List ℕ) where
+  -- what the count left says
+  counted-usual : {q : Quick} → q ≡ countedQuick x s now → (q .usual && settled (q .scan) s running) ≡ (oneCount x s now && settled (countTo x s now) s running)
+  unfolding countedQuick
+  counted-usual {q} e = ap (λ (q : Quick). q .usual && settled (q .scan) s running) e ∙ go (oneCount x s now)
+    where
+      go : (t : Bool) → (cond t (told (countTo x s now)) (other x) .usual && settled (cond t (told (countTo x s now)) (other x) .scan) s running) ≡ (t && settled (countTo x s now) s running)
+      go true = refl
+      go false = refl
+
+  pub quick-unchecked : (page : DataPage) → checksPass x s now ram icons ≡ false → other x ≡ quickByte x s now page running ram icons
+  unfolding quickByte usual
+  quick-unchecked page h = rw h
+
+  module _ (h : checksPass x s now ram icons ≡ true) {q : Quick} (e : q ≡ countedQuick x s now) where
+    pub quick-unsettled : (page : DataPage) → (q .usual && settled (q .scan) s running) ≡ false → other x ≡ quickByte x s now page running ram icons
+    unfolding quickByte usual
+    quick-unsettled page u = rw (h, sym (counted-usual e) ∙ u)
+
+  module _ (u : usual x s now running ram icons ≡ true) where
+    parts : (checksPass x s now ram icons ≡ true) × (oneCount x s now && settled (countTo x s now) s running ≡ true)
+    unfolding usual
+    parts = both (checksPass x s now ram icons) (oneCount x s now && settled (countTo x s now) s running) u
+
+    passes : Checked x s now ram icons
+    passes = checked x s now ram icons (parts .0)
+
+    then : (oneCount x s now ≡ true) × (settled (countTo x s now) s running ≡ true)
+    then = both (oneCount x s now) (settled (countTo x s now) s running) (parts .1)
+
+    usual-scan : checkScan x ≡ none
+    unfolding oneCount
+    usual-scan = check-by x (passes .scan-ok) (both (validRunning (x .ticking .clock) (x .ticking .rate)) (not (due x now) || inForce x s) (then .0) .0)
+
+    usual-lent : checkLent x (validSettings s && validSettings s) now ram icons ≡ none
+    unfolding checkLent inOrder
+    usual-lent = let k = passes in simp (k .memory, k .in-range, k .settings-ok, usual-scan)
+
+    -- the rule turns no usual byte down, and leaves the counted scan with its latch kept
+    pub usual-passes : (page : DataPage) → byteScan x s s now page running ram icons .0 ≡ none
+    unfolding byteScan
+    usual-passes page = usual-lent
+
+    pub usual-scan-after : (page : DataPage) → byteScan x s s now page running ram icons .1 ≡ retained (countTo x s now) s page ram icons
+    unfolding byteScan
+    usual-scan-after page =
+        ap (λ (k : Option ℕ). unlessRefused k (updated (retained (countTo x s now) s page ram icons) s now running ram icons) x) usual-lent
+        ∙ settled-same (retained (countTo x s now) s page ram icons) s now running ram icons (settled-retained (countTo x s now) s page running ram icons ∙ then .1)
+
+  module _ (h : checksPass x s now ram icons ≡ true) {q : Quick} (e : q ≡ countedQuick x s now) (u : (q .usual && settled (q .scan) s running) ≡ true) where
+    is-usual : usual x s now running ram icons ≡ true
+    unfolding usual
+    is-usual = rw (h, sym (counted-usual e) ∙ u)
+
+    quick-scan : q .scan ≡ countTo x s now
+    unfolding countedQuick
+    quick-scan = ap (λ (q : Quick). q .scan) e ∙ rw (then is-usual .0)
+
+    -- the scan counted is that of a scan which passes
+    pub quick-passed : checkScan (q .scan) ≡ none
+    quick-passed =
+        let k = checked x s now ram icons h in
+        ap checkScan quick-scan ∙ counted-passes x s now (k .in-range) (k .settings-ok) (usual-scan is-usual)
+
+    pub quick-done : (page : DataPage) {y : Scan} → y ≡ retained (q .scan) s page ram icons → told y ≡ quickByte x s now page running ram icons
+    unfolding quickByte
+    quick-done page ey =
+        rw is-usual
+        (ap told (ey ∙ ap (λ (z : Scan). retained z s page ram icons) quick-scan ∙ sym (usual-scan-after is-usual page)))
