@@ -274,11 +274,16 @@ impl Scanned {
 /// 64 driven states, a second after their last edge, so that drives, images and
 /// counts have all their work to do.
 pub fn scanned(random: &mut Random) -> Vec<Scanned> {
+    scanned_after(random, 1 << 64)
+}
+
+/// 64 driven states, so long after their last edge.
+fn scanned_after(random: &mut Random, span: u128) -> Vec<Scanned> {
     let mut all = Vec::new();
     while all.len() < 64 {
         let chip = valid::chip(random);
         let (ram, icons) = valid::memory(random);
-        let now = chip.scan.clock.map_or(0, |clock| clock.at + (1 << 64));
+        let now = chip.scan.clock.map_or(0, |clock| clock.at + span);
         let oscillates = chip.display.oscillator_control & 1 == 0;
         if chip.power.driven() && oscillates && 0 < now && now < END {
             all.push(Scanned {
@@ -293,6 +298,42 @@ pub fn scanned(random: &mut Random) -> Vec<Scanned> {
     all
 }
 
+/// A century in seconds.
+const CENTURY: u64 = 36_525 * 86_400;
+
+/// The same states at moments further and further on: a drive costs the same.
+fn level(random: &mut Random) {
+    let century = u128::from(CENTURY) << 64;
+    let all = scanned_after(random, century);
+    for (name, span) in [
+        (
+            "drive of the scan, 1 ms after the last edge",
+            (1 << 64) / 1000,
+        ),
+        ("drive of the scan, a day after the last edge", 86_400 << 64),
+        ("drive of the scan, 100 years after the last edge", century),
+    ] {
+        drives(&all, name, century - span);
+    }
+}
+
+/// A drive of each state, so long before its moment.
+fn drives(all: &[Scanned], name: &str, back: u128) {
+    let (mut out, mut frame) = ([0; 12], 0);
+    line(
+        name,
+        timed(all, |at| {
+            black_box(&at.state.drive(at.now - back));
+        }),
+        timed(all, |at| {
+            let now = at.now - back;
+            let lent = at.lent();
+            black_box(ffi_scan::drive(&at.chip, now, lent, &mut out, &mut frame));
+            black_box((&out, &frame));
+        }),
+    );
+}
+
 /// Ours checks memory, time, settings, scan and clock at each call. The
 /// original counts by itself only within other calls, of which a fall of the
 /// supply does the least besides.
@@ -302,19 +343,7 @@ fn scans(random: &mut Random) {
         ("drive of the scan, a second after the last edge", 0),
         ("drive of the scan, at the last edge", 1 << 64),
     ] {
-        let (mut out, mut frame) = ([0; 12], 0);
-        line(
-            name,
-            timed(&all, |at| {
-                black_box(&at.state.drive(at.now - back));
-            }),
-            timed(&all, |at| {
-                let now = at.now - back;
-                let lent = at.lent();
-                black_box(ffi_scan::drive(&at.chip, now, lent, &mut out, &mut frame));
-                black_box((&out, &frame));
-            }),
-        );
+        drives(&all, name, back);
     }
     let fallen = || {
         timed_on_copies(
@@ -460,6 +489,7 @@ pub fn run(seed: u64) -> bool {
     clocks(&mut random);
     voltages(&mut random);
     scans(&mut random);
+    level(&mut random);
     scan_bytes();
     speed_controller::rows(&mut random);
     println!();

@@ -74,6 +74,7 @@ impl Nt7508 {
         }
     }
     /// The state, and memory that a call may write.
+    #[inline]
     fn parts(&mut self) -> (&mut [u64], LentMut<'_>) {
         let lent = LentMut {
             ram: &mut self.ram,
@@ -91,6 +92,7 @@ impl Nt7508 {
     }
     /// Up to eight rising edges at one moment, the oldest bit the highest of the
     /// low `count`; a whole byte is `(byte, 8)`.
+    #[inline]
     pub fn shift_in(&mut self, bits: u8, count: u8, now: Time) -> Result<Option<Event>, Refusal> {
         let mut event = [0; EVENT_WORDS];
         let (state, lent) = self.parts();
@@ -98,10 +100,12 @@ impl Nt7508 {
         Refusal::unless(status, Event::of(&event))
     }
     /// Chip select. A change drops the bits under way.
+    #[inline]
     pub fn select(&mut self, selected: bool) -> Result<(), Refusal> {
         Refusal::unless(controller::select(&mut self.state, selected), ())
     }
     /// The data line: true for data, false for commands.
+    #[inline]
     pub fn command_data(&mut self, data: bool) -> Result<(), Refusal> {
         Refusal::unless(controller::command_data(&mut self.state, data), ())
     }

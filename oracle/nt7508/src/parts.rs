@@ -12,10 +12,12 @@ impl Time {
     /// The start.
     pub const ZERO: Self = Self(0);
     /// The moment of so many fraction units.
+    #[inline]
     pub const fn from_raw(raw: u128) -> Self {
         Self(raw)
     }
     /// In fraction units.
+    #[inline]
     pub const fn raw(self) -> u128 {
         self.0
     }
@@ -25,6 +27,7 @@ impl Time {
         clock::micros(us, &mut out);
         Self(wide(out[0], out[1]))
     }
+    #[inline]
     pub(crate) fn of(seconds: u64, fraction: u64) -> Self {
         Self(wide(seconds, fraction))
     }
@@ -86,6 +89,7 @@ impl Refusal {
         all.find(|(n, _)| *n == number).map(|(_, why)| *why)
     }
     /// What a status says of a value. The library has no number but these.
+    #[inline]
     pub(crate) fn unless<T>(status: u64, value: T) -> Result<T, Self> {
         match status {
             0 => Ok(value),
@@ -128,6 +132,7 @@ pub enum Event {
 }
 
 impl Event {
+    #[inline]
     pub(crate) fn of(words: &[u64; EVENT_WORDS]) -> Option<Self> {
         let [kind, page, column, value, marked, parameter, seconds, fraction] = *words;
         let at = Time::of(seconds, fraction);
