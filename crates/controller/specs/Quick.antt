@@ -25,7 +25,7 @@ use Rattle.controller.specs.Command.{addressAfter}
 use Rattle.controller.specs.Byte.{conditionsOf, nextColumn, storeOf, pageSent, stepOf}
 use Rattle.controller.specs.Closed.{registersOk, completes}
 
--- commands that set page or column, 00 to 1F and B0 to BF, and the empty command E3
+-- commands that set page or column, 00 to 17 and B0 to BF, or nothing, 18 to 1F and E3
 abbrev pub addressing : ℕ → Bool
 addressing b = leb b 31 || between 176 191 b || eqb b 227
 

@@ -35,7 +35,7 @@ pub struct Sent {
     pub store: Store,
 }
 
-// Commands that set page or column, and the empty command.
+// Commands that set page or column, or nothing.
 fn addressing(byte: u8) -> bool
     ensures { λ r. ⌜ r ≡ addressingOf byte ⌝ }
 {
