@@ -4,7 +4,7 @@ use Prim.Native.Nat.{ℕ, _+_, _-_, _*_, _/_, _%_, _^_, _≤_, _<_}
 use mathlib.Core.Bool.{true, _&&_}
 use mathlib.Core.Path.{_≡_, sym, _∙_, ap}
 use native.Mathlib.Omega.{arith}
-use native.Mathlib.Nat.{div-add-mod', mod-lt, mul-le-mul, le-div-iff-mul-le, div-lt-iff-lt-mul, mul-add-div-right, mul-add-mod-self-right, div-div-eq-div-mul, mul-comm}
+use native.Mathlib.Nat.{lt-of-not-le, div-add-mod', mod-lt, mul-le-mul, le-div-iff-mul-le, div-lt-iff-lt-mul, mul-add-div-right, mul-add-mod-self-right, div-div-eq-div-mul, mul-comm}
 use lib.Arith.{digits-div, digits-mod}
 use lib.Dec.{leb, ltb, eqb}
 use borrow.Author.Tests.{eq-eqb, eqb-true, lt-ltb, ltb-true}
@@ -124,6 +124,11 @@ few-room s w n u hs hw hn hu = room ((w * n + u) / 2 ^ 64) (div-lt-iff-lt-mul {k
   where
     room : (k : ℕ) → k < 2 ^ 33 → s + k < 2 ^ 63
     room k h = omega arith
+
+-- the whole units of a period below 2^64 parts
+pub whole-lt : (w p m n : ℕ) → w * p + m ≡ n → n < 2 ^ 64 * p → w < 2 ^ 64
+whole-lt w p m n e h =
+    lt-of-not-le {n = 2 ^ 64} {m = w} (λ k. omega (arith, mul-le-mul {n₁ = 2 ^ 64} {m₁ = p} {n₂ = w} {m₂ = p} k (omega arith)))
 
 -- a position moved by whole edges
 pub moved-words : (x n q : ℕ) → (x / 2 ^ 64 + n * q) * 2 ^ 64 + x % 2 ^ 64 ≡ x + n * (q * 2 ^ 64)

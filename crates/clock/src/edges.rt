@@ -173,8 +173,10 @@ impl Clock {
             low: at.fraction,
         };
         let parts = self.fraction + edges * self.remainder;
+        // Side by side, so that one division gives both.
+        let rest = parts % rate.numerator;
         let span = mul_add(whole, edges, parts / rate.numerator);
-        self.standing(sum(begin, span), parts % rate.numerator, edges)
+        self.standing(sum(begin, span), rest, edges)
     }
 
     // By so few edges that the clock's position has room in two words.

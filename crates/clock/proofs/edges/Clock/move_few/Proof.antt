@@ -9,7 +9,7 @@ use Rattle.clock.specs.Wide.{value, wideOf}
 use Rattle.clock.specs.Time.{raw}
 use Rattle.clock.specs.Position.{period as periodOf, position, positionAfter}
 use Rattle.clock.specs.Edges.{edge, movedBy}
-use Rattle.clock.proofs.Positions.{value-words, of-rate-period, after-div, after-mod, parts-lt, units-lt, few-room, ordinal-lt}
+use Rattle.clock.proofs.Positions.{value-words, of-rate-period, after-div, after-mod, parts-lt, units-lt, whole-lt, few-room, ordinal-lt}
 use Rattle.clock.proofs.Checks.{valid}
 use Rattle.clock.proofs.Rates.{lcd-bounds}
 use Rattle.clock.proofs.edges.Clock.move_few.Statement.{statement}
@@ -33,14 +33,19 @@ add-parts c =
     let period = of-rate-period (a .self) (a .rate) b (v .of-rate) in
     omega (arith, b .high, parts-lt (a .self .fraction) (a .edges) (a .self .remainder) (a .rate .numerator) (v .fraction-lt) (period .1 .0) (start .pre .1 .1))
 
+rem-rest : tie.Need-rem-rest
+rem-rest c =
+    let start = c .before .before .before .before .before in
+    omega (arith, lcd-bounds (start .args .rate) (start .pre .0) .low)
+
 div-mul-add : tie.Need-div-mul-add
 div-mul-add c =
-    let start = c .before .before .before .before .before in
+    let start = c .before .before .before .before .before .before in
     omega (arith, lcd-bounds (start .args .rate) (start .pre .0) .low)
 
 mul-add-requires : tie.Need-mul-add-requires
 mul-add-requires c κs =
-    let start = c .before .before .before .before .before in
+    let start = c .before .before .before .before .before .before in
     let a = start .args in
     let b = lcd-bounds (a .rate) (start .pre .0) in
     let v = valid (a .self) (a .rate) (start .pre .1 .0) in
@@ -49,19 +54,14 @@ mul-add-requires c κs =
 
 sum-requires : tie.Need-sum-requires
 sum-requires c κs =
-    let start = c .before .before .before .before .before .before in
+    let start = c .before .before .before .before .before .before .before in
     let a = start .args in
     let b = lcd-bounds (a .rate) (start .pre .0) in
     let v = valid (a .self) (a .rate) (start .pre .1 .0) in
     let period = of-rate-period (a .self) (a .rate) b (v .of-rate) in
-    let low-lt : a .self .whole .low < 2 ^ 64 = search needs in
+    let whole = whole-lt (value (a .self .whole)) (a .rate .numerator) (a .self .remainder) (periodOf (a .rate)) (period .0) (omega (arith, b .low, b .denominator-high)) in
     simp (c .mul-add .ensures)
-    (few-room (a .self .at .seconds) (value (a .self .whole)) (a .edges) _ (omega (arith, ltb-true (raw (a .self .at)) (2 ^ 32 * 2 ^ 64) (v .in-range))) (omega (arith, period .1 .1, low-lt)) (start .pre .1 .1) (units-lt (a .self .fraction) (a .edges) (a .self .remainder) (a .rate .numerator) (v .fraction-lt) (period .1 .0) (start .pre .1 .1)))
-
-rem-standing : tie.Need-rem-standing
-rem-standing c =
-    let start = c .before .before .before .before .before .before .before .before in
-    omega (arith, lcd-bounds (start .args .rate) (start .pre .0) .low)
+    (few-room (a .self .at .seconds) (value (a .self .whole)) (a .edges) _ (omega (arith, ltb-true (raw (a .self .at)) (2 ^ 32 * 2 ^ 64) (v .in-range))) whole (start .pre .1 .1) (units-lt (a .self .fraction) (a .edges) (a .self .remainder) (a .rate .numerator) (v .fraction-lt) (period .1 .0) (start .pre .1 .1)))
 
 standing-requires : tie.Need-standing-requires
 standing-requires c κs =
@@ -74,7 +74,7 @@ standing-requires c κs =
 returns : tie.Need-returns
 unfolding movedBy edge positionAfter position
 returns c =
-    let at-sum = c .before .before in
+    let at-sum = c .before in
     let at-mul-add = at-sum .before in
     let start = c .before .before .before .before .before .before .before .before .before in
     let a = start .args in
@@ -102,9 +102,9 @@ move-few-spec =
     (tie.spec
     mul-parts
     add-parts
+    rem-rest
     div-mul-add
     mul-add-requires
     sum-requires
-    rem-standing
     standing-requires
     returns)
