@@ -1,13 +1,13 @@
 -- What the clock's code computes with words is what its definitions say: the period's check, the ordinal's check, the
 -- edge count and the move.
 use Prim.Native.Nat.{ℕ, _+_, _-_, _*_, _/_, _%_, _^_, _≤_, _<_}
-use mathlib.Core.Bool.{true, _&&_}
+use mathlib.Core.Bool.{true, false, _&&_}
 use mathlib.Core.Path.{_≡_, sym, _∙_, ap}
 use native.Mathlib.Omega.{arith}
 use native.Mathlib.Nat.{lt-of-not-le, div-add-mod', mod-lt, mul-le-mul, le-div-iff-mul-le, div-lt-iff-lt-mul, mul-add-div-right, mul-add-mod-self-right, div-div-eq-div-mul, mul-comm}
 use lib.Arith.{digits-div, digits-mod}
 use lib.Dec.{leb, ltb, eqb}
-use borrow.Author.Tests.{eq-eqb, eqb-true, lt-ltb, ltb-true}
+use borrow.Author.Tests.{eq-eqb, eqb-true, lt-leb, lt-ltb, ltb-true}
 use Rattle.checks.proofs.Tests.{both, same, leb-same}
 use Rattle.clock.specs.declared.rate.Rate.{Rate}
 use Rattle.clock.specs.declared.edges.Clock.{Clock}
@@ -31,13 +31,6 @@ by-product w s p k h =
     (λ e.
     let z = both (eqb w (k / p)) (eqb s (k % p)) e in
     eq-eqb (w * p + s) k (rw (eqb-true w (k / p) (z .0), eqb-true s (k % p) (z .1)) (div-add-mod' k p)))
-
--- a number against q · 2^64, by its words
-pub by-words : (n q : ℕ) → eqb (n / 2 ^ 64) q && eqb (n % 2 ^ 64) 0 ≡ eqb n (q * 2 ^ 64)
-by-words n q =
-    same _ _
-    (λ e. let z = both (eqb (n / 2 ^ 64) q) _ e in eq-eqb n (q * 2 ^ 64) (omega (arith, eqb-true (n / 2 ^ 64) q (z .0), eqb-true (n % 2 ^ 64) 0 (z .1))))
-    (λ e. let z = eqb-true n (q * 2 ^ 64) e in simp (eq-eqb (n / 2 ^ 64) q (omega arith), eq-eqb (n % 2 ^ 64) 0 (omega arith)))
 
 -- whether a clock is of the rate
 module _ (c : Clock) (r : Rate) (b : Bounds r) where
@@ -65,12 +58,13 @@ module _ (c : Clock) (r : Rate) (b : Bounds r) where
       let below = ltb-true (c .remainder) (r .numerator) (rest .1) in
       (eqb-true _ _ (of-rate-by-product (rest .0) below ∙ h), (below, eqb-true (c .whole .high) 0 (small .1)))
 
--- the ordinal's test
-pub ordinal-test : (o n q : ℕ) → 0 < q → leb o (n / 2 ^ 64 / q) ≡ leb (o * (q * 2 ^ 64)) n
-ordinal-test o n q pos =
-    leb-same o (n / 2 ^ 64 / q) (o * (q * 2 ^ 64)) n
-    (λ h. omega (arith, le-div-iff-mul-le {k = q} {x = o} {y = n / 2 ^ 64} pos .0 h))
-    (λ h. omega (arith, div-lt-iff-lt-mul {k = q} {x = n / 2 ^ 64} {y = o} pos .0 h))
+-- the ordinal's test, by a product
+pub ordinal-test : (o n q : ℕ) → leb (o * q) (n / 2 ^ 64) ≡ leb (o * (q * 2 ^ 64)) n
+ordinal-test o n q = leb-same (o * q) (n / 2 ^ 64) (o * (q * 2 ^ 64)) n (λ h. omega arith) (λ h. omega arith)
+
+pub ordinal-above : (o n q : ℕ) → 0 < q → n / 2 ^ 64 < o → leb (o * (q * 2 ^ 64)) n ≡ false
+ordinal-above o n q pos h =
+    lt-leb (o * (q * 2 ^ 64)) n (omega (arith, mul-le-mul {n₁ = o} {m₁ = 1} {n₂ = o} {m₂ = q} (omega arith) pos))
 
 -- the span to a time in range
 pub span-high-lt : (n a : ℕ) → n < 2 ^ 32 * 2 ^ 64 → (n - a) / 2 ^ 64 < 2 ^ 32

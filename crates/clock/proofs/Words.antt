@@ -1,9 +1,13 @@
 -- Two-word numbers: a product and a quotient by halves of 32 bits, a difference and a sum, and bounds of the parts.
 use Prim.Native.Nat.{ℕ, _+_, _-_, _*_, _/_, _%_, _^_, _<_, _≤_}
+use mathlib.Core.Bool.{_&&_}
 use mathlib.Core.Path.{_≡_, sym, _∙_, ap}
 use native.Mathlib.Omega.{arith}
 use native.Mathlib.Nat.{div-add-mod', mod-lt, mul-le-mul, mul-add-div-right, mul-add-mod-self-right, div-lt-iff-lt-mul}
 use lib.Arith.{digits-div, digits-mod}
+use lib.Dec.{eqb}
+use borrow.Author.Tests.{eq-eqb, eqb-true}
+use Rattle.checks.proofs.Tests.{same, both}
 use Rattle.clock.specs.Wide.{wideOf, quotientOf}
 
 -- a number's words, from its words
@@ -34,6 +38,14 @@ module _ (h l m c : ℕ) where
 
     pub middle-column-le : l < 2 ^ 64 → middle-column ≤ (2 ^ 32 - 1) * 2 ^ 32
     middle-column-le b = omega (arith, half-product {a = l / 2 ^ 32} (omega arith) mb, low-column-le)
+
+-- a product against q · 2^64, by its columns
+pub by-columns : (l m c q : ℕ) → eqb (middle-column 0 l m c) (q * 2 ^ 32) && eqb (low-column 0 l m c % 2 ^ 32) 0 ≡ eqb (l * m + c) (q * 2 ^ 64)
+by-columns l m c q =
+    let e : l * m + c ≡ middle-column 0 l m c * 2 ^ 32 + low-column 0 l m c % 2 ^ 32 = omega (arith, columns 0 l m c) in
+    same _ _
+    (λ h. let z = both (eqb (middle-column 0 l m c) (q * 2 ^ 32)) _ h in eq-eqb (l * m + c) (q * 2 ^ 64) (omega (arith, eqb-true (middle-column 0 l m c) (q * 2 ^ 32) (z .0), eqb-true (low-column 0 l m c % 2 ^ 32) 0 (z .1))))
+    (λ h. let z = eqb-true (l * m + c) (q * 2 ^ 64) h in simp (eq-eqb (middle-column 0 l m c) (q * 2 ^ 32) (omega arith), eq-eqb (low-column 0 l m c % 2 ^ 32) 0 (omega arith)))
 
 -- one digit of a long division
 module _ (x y d b : ℕ) (pos : 0 < d) where

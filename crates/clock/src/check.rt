@@ -4,10 +4,9 @@ ghost use mathlib.Core.Bool.{true};
 ghost use Rattle.clock.specs.Rate.{isLcd};
 ghost use Rattle.clock.specs.Check.{refused, isOfRate, validClock, checkClock};
 use crate::edges::Clock;
-use crate::edges::over;
 use crate::position::position_of;
 use crate::rate::Rate;
-use crate::wide::mul_add;
+use crate::wide::product_is;
 
 // Why a call is turned down: `number` of specs/Check.antt gives each its number.
 pub enum Refusal {
@@ -33,8 +32,12 @@ impl Clock {
             & (whole.high == 0)) {
             return false;
         }
-        let period = mul_add(whole, rate.numerator, self.remainder);
-        (period.high == rate.denominator) & (period.low == 0)
+        product_is(
+            whole.low,
+            rate.numerator,
+            self.remainder,
+            rate.denominator,
+        )
     }
 
     // Number 5.
@@ -47,7 +50,11 @@ impl Clock {
             return false;
         }
         let position = position_of(at, self.fraction, rate);
-        self.ordinal <= over(position.high, rate.denominator)
+        // A product, where it has room, since a division is slow.
+        if self.ordinal > position.high {
+            return false;
+        }
+        self.ordinal * rate.denominator <= position.high
     }
 
     // Numbers 4 and 5.

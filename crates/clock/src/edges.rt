@@ -58,7 +58,7 @@ fn smaller(a: u64, b: u64) -> u64
 }
 
 // Most rates are over 1, and a division is slow.
-pub(crate) fn over(n: u64, d: u64) -> u64
+fn over(n: u64, d: u64) -> u64
     requires { ⌜ 0 < d ⌝ }
     ensures { λ r. ⌜ r ≡ n / d ⌝ }
 {

@@ -2,6 +2,7 @@
 // a short number and a quotient by one, each by halves of 32 bits, a difference and a sum.
 ghost use mathlib.Core.Path.{_≡_};
 ghost use Prim.Native.Nat.{_+_, _-_, _*_, _^_, _<_, _≤_};
+ghost use lib.Dec.{eqb};
 ghost use Rattle.clock.specs.Wide.{value, wideOf, quotientOf};
 
 // high × 2^64 + low.
@@ -31,6 +32,18 @@ pub(crate) fn mul_add(w: Wide, m: u64, c: u64) -> Wide
         high: w.high * m + u / HALF,
         low: u % HALF * HALF + t % HALF,
     }
+}
+
+// Whether low × m + c is high × 2^64: its halves tell it, with no word put together.
+pub(crate) fn product_is(low: u64, m: u64, c: u64, high: u64) -> bool
+    requires { ⌜ m < 2 ^ 32 ⌝ }
+    requires { ⌜ c < 2 ^ 32 ⌝ }
+    requires { ⌜ high < 2 ^ 32 ⌝ }
+    ensures { λ r. ⌜ r ≡ eqb (low * m + c) (high * 2 ^ 64) ⌝ }
+{
+    let t = low % HALF * m + c;
+    let u = low / HALF * m + t / HALF;
+    (u == high * HALF) & (t % HALF == 0)
 }
 
 // w by d, from the high word down.

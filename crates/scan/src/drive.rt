@@ -38,11 +38,11 @@ pub enum Common {
 // Bit n % 64 of word n / 64 is segment n, active relative to the selected common. With `grounded`
 // every electrode is at 0.
 pub struct LcdDrive {
-    pub common: Common,
-    pub segments: [u64; 2],
-    pub inverted: bool,
     pub voltages: LcdVoltages,
+    pub common: Common,
+    pub inverted: bool,
     pub grounded: bool,
+    pub segments: [u64; 2],
 }
 
 // The drive and the frame of the scan shown, in quanta (duty x PWM, 0 where undriven); or the refusal

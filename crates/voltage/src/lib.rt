@@ -26,8 +26,8 @@ pub struct Settings {
 
 // What else the voltages read. `waiting` is the wait after a cold rise of the supply.
 pub struct Supply {
-    pub supply_millivolts: u16,
     pub temperature_millicelsius: i32,
+    pub supply_millivolts: u16,
     pub power_save: bool,
     pub waiting: bool,
 }

@@ -14,7 +14,7 @@ returns c =
     let at-has-bit = at-works-at .before .before .before in
     let at-struct-told = at-has-bit .before in
     let start = at-struct-told .before in
-    let back = toZ-ofZ {w = w32} {z = start .args .supply .«temperature_millicelsius»} (record { sfits = at-struct-told .struct-told .given .1 .0 .1 }) in
+    let back = toZ-ofZ {w = w32} {z = start .args .supply .«temperature_millicelsius»} (record { sfits = at-struct-told .struct-told .given .0 .1 }) in
     simp (at-has-bit .has-bit .ensures, at-works-at .works-at .ensures, back)
 
 pub pump-present-spec : {M : Type 1} → statement M

@@ -24,7 +24,7 @@ returns c =
     let at-target-of = at-pump-of .before in
     let at-struct-told = at-target-of .before in
     let start = c .before .before .before .before .before .before .before .before .before .before .before in
-    let back = toZ-ofZ {w = w32} {z = start .args .supply .«temperature_millicelsius»} (record { sfits = at-struct-told .struct-told .given .1 .0 .1 }) in
+    let back = toZ-ofZ {w = w32} {z = start .args .supply .«temperature_millicelsius»} (record { sfits = at-struct-told .struct-told .given .0 .1 }) in
     simp (
       c .share-level4 .ensures,
       c .before .share-level3 .ensures,
