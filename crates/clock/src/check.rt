@@ -32,12 +32,7 @@ impl Clock {
             & (whole.high == 0)) {
             return false;
         }
-        product_is(
-            whole.low,
-            rate.numerator,
-            self.remainder,
-            rate.denominator,
-        )
+        product_is(whole.low, rate.numerator, self.remainder, rate.denominator)
     }
 
     // Number 5.
