@@ -1,7 +1,7 @@
 -- The words that a usual byte can change, put into those of a state: they are then the words of the state that the byte leaves. On the
 -- words of a state every store computes, but for those of a clock, which runs or not.
 use Prim.Native.Nat.{ℕ}
-use mathlib.Core.List.{List, [], _∷_}
+use mathlib.Core.List.{List, _∷_}
 use mathlib.Core.Path.{_≡_, refl, ap, sym, _∙_}
 use native.Mathlib.Omega.{arith}
 use lib.ListN.{drop}
