@@ -20,7 +20,8 @@ use Rattle.scan.specs.Check.{checkScan}
 use Rattle.scan.specs.Drive.{runs}
 use Rattle.scan.specs.Run.{runningAfter, byteScan}
 use Rattle.scan.specs.Quick.{usual, quickByte}
-use Rattle.scan.proofs.Usual.{usual-passes}
+use Rattle.scan.proofs.Leaves.{lasting}
+use Rattle.scan.proofs.Usual.{usual-passes, usual-lasts}
 use Rattle.voltage.specs.declared.Settings as analog
 use Rattle.controller.specs.declared.state.Nt7508.{Nt7508}
 use Rattle.controller.specs.declared.state.Serial.{Serial}
@@ -291,3 +292,27 @@ module _ (x : Nt7508) (b : ℕ) (now : Time) (ram icons : List ℕ) where
         let u : usual (x .scan) (x .display) now (staying (x .power)) ram icons ≡ true = sym (ap (λ (q : Quick). q .usual) e ∙ told-usual (x .scan) (x .display) now (pageSent x) (staying (x .power)) ram icons) ∙ h in
         ap (λ (q : Quick). sentOf (q .scan) (x .serial) (x .address) b now) e
         ∙ simp u (sym (quick-sent x b now ram icons (sym told ∙ h)))
+
+-- ---- what it leaves as it is: of the scan all but clock, counters and latch, and of the address the saved column
+saved-stays : (a : Address) (b : ℕ) → addressing b ≡ true → addressAfter a b .«saved_column» ≡ a .«saved_column»
+unfolding addressAfter
+saved-stays a b h = simp (apart b h 226 refl, apart b h 238 refl, apart b h 224 refl)
+
+sent-saved : (z : Scan) (l : Serial) (a : Address) (b : ℕ) (now : Time) → keeps l b ≡ true → sentOf z l a b now .address .«saved_column» ≡ a .«saved_column»
+unfolding sentOf
+sent-saved z l a b now h = go (l .«data») refl
+  where
+    go : (d : Bool) → l .«data» ≡ d → sentOf z l a b now .address .«saved_column» ≡ a .«saved_column»
+    go true e = simp e
+    go false e = simp e (saved-stays a b (both (noPending (l .pending)) (addressing b) (simp e at h) .1))
+
+module _ (x : Nt7508) (b : ℕ) (now : Time) (ram icons : List ℕ) (h : usualByte x b now ram icons ≡ true) where
+  pub scan-lasts : lasting (quickSent x b now ram icons .scan) ≡ lasting (x .scan)
+  scan-lasts =
+      ap (λ (s : Sent). lasting (s .scan)) (quick-sent x b now ram icons h ∙ sent-parts (scanSent x now ram icons) (x .serial) (x .address) b now)
+      ∙ usual-lasts (x .scan) (x .display) now (staying (x .power)) ram icons (usual-told x b now ram icons h) (pageSent x)
+
+  pub saved-lasts : quickSent x b now ram icons .address .«saved_column» ≡ x .address .«saved_column»
+  saved-lasts =
+      ap (λ (s : Sent). s .address .«saved_column») (quick-sent x b now ram icons h)
+      ∙ sent-saved (scanSent x now ram icons) (x .serial) (x .address) b now (usual-stays x b now ram icons h .keeps-registers)

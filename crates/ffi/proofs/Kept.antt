@@ -1,7 +1,7 @@
--- Words that stay where they are: of a block that holds a state, those of display, voltages and power are the words of what they
--- hold, if the words of a wait are 0. So scan, address and serial line put into it make a whole state.
+-- Words that stay where they are: those of a block that holds a state are the words of what they hold, if what is not there has words
+-- of 0.
 use Prim.Native.Nat.{ℕ, zero, suc, _+_, _-_, _%_, _≤_, _<_, _^_}
-use mathlib.Core.Bool.{Bool, true, false, cond, _&&_}
+use mathlib.Core.Bool.{Bool, true, false, cond, not, _&&_, _||_}
 use mathlib.Core.List.{List, [], _∷_, _++_}
 use mathlib.Core.Path.{_≡_, refl, ap, sym, _∙_}
 use native.Mathlib.Nat.{mod-eq-of-lt}
@@ -13,14 +13,14 @@ use lib.Seq.{drop-cons}
 use mir.Val.{boolByte}
 use borrow.Author.Tests.{ltb-true, ltb-false, le-ltb, eqb-true}
 use Rattle.checks.proofs.Tests.{both}
-use Rattle.scan.specs.declared.state.Scan.{Scan}
-use Rattle.controller.specs.declared.state.Serial.{Serial}
-use Rattle.controller.specs.declared.state.Address.{Address}
+use Rattle.controller.specs.declared.state.SavedColumn.{SavedColumn}
+use Rattle.controller.specs.declared.state.Pending.{Pending}
 use Rattle.controller.specs.declared.state.Ready.{Ready}
 use Rattle.ffi.specs.ClockWords.{time}
-use Rattle.ffi.specs.ScanWords.{flag}
-use Rattle.ffi.specs.StateWords.{scanFits, displayFits, analogFits, powerFits, lineFits, holdsState, displayIn, analogIn, temperatureOf, readyIn, powerWith, powerIn, scanPart, displayPart, analogPart, temperatureWord, powerPart, addressPart, serialPart, pasted, stateWords}
-use Rattle.ffi.proofs.Blocks.{filled-none, filled-more, filled-kept, filled-all, length-scan, length-display, length-power, length-address, length-serial}
+use Rattle.ffi.specs.ScanWords.{flag, runningOf, runningWords}
+use Rattle.ffi.specs.StateWords.{scanFits, displayFits, analogFits, powerFits, lineFits, holdsState, clockIn, scanIn, displayIn, analogIn, temperatureOf, readyIn, powerWith, powerIn, savedIn, addressIn, pendingIn, serialIn, stateOf, scanPart, displayPart, analogPart, temperatureWord, powerPart, savedWords, addressPart, pendingWords, serialPart, stateWords}
+use Rattle.ffi.specs.QuickWords.{thereOrZero, restZero, eightZero, clockZero}
+use Rattle.ffi.proofs.Blocks.{filled-none, filled-kept, filled-all, length-scan, length-display, length-power, length-address, length-serial}
 use Rattle.ffi.proofs.Held.{held-length}
 
 -- ---- one word
@@ -79,8 +79,64 @@ kept (m ∷ ms) k w t h l =
 zero-kept : (k : ℕ) (w : List ℕ) → k < length w → getD w k 0 ≡ 0 → drop k w ≡ 0 ∷ drop (suc k) w
 zero-kept k w l e = drop-cons w k 0 l ∙ ap (λ (n : ℕ). n ∷ drop (suc k) w) e
 
+-- ---- words from k on, whatever they are, and those that are 0
+abbrev pub from : (n k : ℕ) → (w rest : List ℕ) → List ℕ
+from zero k w rest = rest
+from (suc n) k w rest = getD w k 0 ∷ from n (suc k) w rest
+
+abbrev past : (n k : ℕ) → ℕ
+past zero k = k
+past (suc n) k = past n (suc k)
+
+stay : (n k : ℕ) (w : List ℕ) → k + n ≤ length w → drop k w ≡ from n k w (drop (past n k) w)
+stay zero k w l = refl
+stay (suc n) k w l = drop-cons w k 0 (omega (arith, l)) ∙ ap (λ (r : List ℕ). getD w k 0 ∷ r) (stay n (suc k) w (omega (arith, l)))
+
+abbrev zerosBy : (before : Bool) → (n k : ℕ) → (w : List ℕ) → Bool
+zerosBy t zero k w = t
+zerosBy t (suc n) k w = zerosBy (t && eqb (getD w k 0) 0) n (suc k) w
+
+zeros : (n k : ℕ) (w rest : List ℕ) (t : Bool) → zerosBy t n k w ≡ true → (t ≡ true) × (from n k w rest ≡ replicate n 0 ++ rest)
+zeros zero k w rest t h = (h, refl)
+zeros (suc n) k w rest t h =
+    let behind = zeros n (suc k) w rest (t && eqb (getD w k 0) 0) h in
+    let is = both t (eqb (getD w k 0) 0) (behind .0) in
+    (is .0, λ i. eqb-true (getD w k 0) 0 (is .1) i ∷ behind .1 i)
+
+-- ---- what may not be there: its words are read, or are 0
+clock-kept : (w rest : List ℕ) → getD w 0 0 < 2 → clockZero w ≡ true → from 9 0 w rest ≡ from 9 0 (runningWords (clockIn w)) rest
+unfolding clockIn clockZero
+clock-kept w rest h z = go (getD w 0 0) h z
+  where
+    go : (n : ℕ) → n < 2 → cond (eqb n 0) (eightZero w) true ≡ true → n ∷ from 8 1 w rest ≡ from 9 0 (runningWords (runningOf n (from 8 1 w []))) rest
+    go zero h z = ap (λ (r : List ℕ). 0 ∷ r) (zeros 8 1 w rest true z .1)
+    go (suc zero) h z = refl
+    go (suc (suc n)) h z = absurd (omega arith)
+
+saved-kept : (there n : ℕ) → thereOrZero there n ≡ true → boolByte (flag there) ∷ n % 65536 ∷ [] ≡ savedWords (cond (eqb there 0) SavedColumn.None (SavedColumn.Column (n % 65536)))
+saved-kept there n h = go (eqb there 0) h
+  where
+    go : (t : Bool) → not t || eqb n 0 ≡ true → boolByte (not t) ∷ n % 65536 ∷ [] ≡ savedWords (cond t SavedColumn.None (SavedColumn.Column (n % 65536)))
+    go true h = ap (λ (k : ℕ). 0 ∷ k % 65536 ∷ []) (eqb-true n 0 h)
+    go false h = refl
+
+pending-kept : (there n : ℕ) → thereOrZero there n ≡ true → boolByte (flag there) ∷ n % 256 ∷ [] ≡ pendingWords (cond (eqb there 0) Pending.None (Pending.Command (n % 256)))
+pending-kept there n h = go (eqb there 0) h
+  where
+    go : (t : Bool) → not t || eqb n 0 ≡ true → boolByte (not t) ∷ n % 256 ∷ [] ≡ pendingWords (cond t Pending.None (Pending.Command (n % 256)))
+    go true h = ap (λ (k : ℕ). 0 ∷ k % 256 ∷ []) (eqb-true n 0 h)
+    go false h = refl
+
 -- ---- the groups
 module _ (w : List ℕ) (long : length w ≡ 75) where
+  scan-kept : scanFits w ≡ true → clockZero w ≡ true → drop 0 w ≡ scanPart (scanIn w) ++ drop 27 w
+  unfolding scanPart scanIn
+  scan-kept h z =
+      let rest = kept (2 ∷ 256 ∷ 2 ∷ 256 ∷ 2 ∷ (replicate 8 256 ++ (2 ∷ []))) 13 w (ltb (getD w 0 0) 2) h (omega (arith, long)) in
+      stay 13 0 w (omega (arith, long))
+      ∙ clock-kept w (from 4 9 w (drop 13 w)) (ltb-true (getD w 0 0) 2 (rest .0)) z
+      ∙ ap (λ (r : List ℕ). from 9 0 (runningWords (clockIn w)) (from 4 9 w r)) (rest .1)
+
   display-kept : displayFits w ≡ true → drop 27 w ≡ displayPart (displayIn w) ++ drop 47 w
   unfolding displayPart
   display-kept h = kept (256 ∷ (replicate 5 2 ++ replicate 14 256)) 27 w true h (omega (arith, long)) .1
@@ -97,22 +153,62 @@ module _ (w : List ℕ) (long : length w ≡ 75) where
       ∙ ap (λ (r : List ℕ). 0 ∷ r) (zero-kept 64 w (omega (arith, long)) c)))
       ∙ ap (λ (n : ℕ). powerPart (powerWith (temperatureOf (getD w 60 0)) (cond (eqb n 0) Ready.Now (Ready.At (time (getD w 63 0) (getD w 64 0)))) w) ++ drop 65 w) (sym a)
 
--- ---- the block
-middle : (a b c d e : Bool) → a && b && c && d && e ≡ true → (b ≡ true) × ((c ≡ true) × (d ≡ true))
-middle a b c d e h =
-    let to-d = both (a && b && c) d (both (a && b && c && d) e h .0) in
-    let to-c = both (a && b) c (to-d .0) in
-    (both a b (to-c .0) .1, (to-c .1, to-d .1))
+  serial-kept : (t : Bool) → fitsBy t (2 ∷ 2 ∷ 256 ∷ 256 ∷ 2 ∷ 256 ∷ []) 69 w ≡ true → thereOrZero (getD w 73 0) (getD w 74 0) ≡ true → (t ≡ true) × (drop 69 w ≡ serialPart (serialIn w) ++ drop 75 w)
+  unfolding serialPart serialIn pendingIn
+  serial-kept t h z =
+      let line = kept (2 ∷ 2 ∷ 256 ∷ 256 ∷ 2 ∷ 256 ∷ []) 69 w t h (omega (arith, long)) in (
+        line .0,
+        line .1 ∙ ap (λ (p : List ℕ). boolByte (flag (getD w 69 0)) ∷ boolByte (flag (getD w 70 0)) ∷ getD w 71 0 % 256 ∷ getD w 72 0 % 256 ∷ from 2 0 p (drop 75 w)) (pending-kept (getD w 73 0) (getD w 74 0) z),
+      )
 
-pub whole : (w : List ℕ) (z : Scan) (a : Address) (l : Serial) → holdsState w ≡ true → getD w 62 0 ≡ 0 → getD w 63 0 ≡ 0 → getD w 64 0 ≡ 0 → {p q r : List ℕ} → p ≡ pasted w 0 (scanPart z) → q ≡ pasted p 65 (addressPart a) → r ≡ pasted q 69 (serialPart l) → r ≡ stateWords (record { scan = z; display = displayIn w; analog = analogIn w; power = powerIn w; address = a; serial = l })
-unfolding holdsState stateWords
-whole w z a l holds e62 e63 e64 put-scan put-address put-serial =
+  address-kept : fitsBy true (256 ∷ 65536 ∷ 2 ∷ 65536 ∷ []) 65 w ≡ true → thereOrZero (getD w 67 0) (getD w 68 0) ≡ true → drop 65 w ≡ addressPart (addressIn w) ++ drop 69 w
+  unfolding addressPart addressIn savedIn
+  address-kept h z =
+      kept (256 ∷ 65536 ∷ 2 ∷ 65536 ∷ []) 65 w true h (omega (arith, long)) .1
+      ∙ ap (λ (s : List ℕ). getD w 65 0 % 256 ∷ getD w 66 0 % 65536 ∷ from 2 0 s (drop 69 w)) (saved-kept (getD w 67 0) (getD w 68 0) z)
+
+-- ---- the block
+record Fit (w : List ℕ) : Type 0 where
+  scan-fits : scanFits w ≡ true
+  display-fits : displayFits w ≡ true
+  analog-fits : analogFits w ≡ true
+  power-fits : powerFits w ≡ true
+  line-fits : lineFits w ≡ true
+
+fit : (w : List ℕ) → holdsState w ≡ true → Fit w
+unfolding holdsState
+fit w h =
+    let all = both (scanFits w && displayFits w && analogFits w && powerFits w) (lineFits w) (both (eqb (length w) 75) _ h .1) in
+    let to-power = both (scanFits w && displayFits w && analogFits w) (powerFits w) (all .0) in
+    let to-analog = both (scanFits w && displayFits w) (analogFits w) (to-power .0) in
+    let to-display = both (scanFits w) (displayFits w) (to-analog .0) in
+    record { scan-fits = to-display .0; display-fits = to-display .1; analog-fits = to-analog .1; power-fits = to-power .1; line-fits = all .1 }
+
+record Zero (w : List ℕ) : Type 0 where
+  seconds : getD w 63 0 ≡ 0
+  fraction : getD w 64 0 ≡ 0
+  saved : thereOrZero (getD w 67 0) (getD w 68 0) ≡ true
+  pending : thereOrZero (getD w 73 0) (getD w 74 0) ≡ true
+
+rest-zero : (w : List ℕ) → restZero w ≡ true → Zero w
+rest-zero w h =
+    let all = both (eqb (getD w 63 0) 0 && eqb (getD w 64 0) 0 && thereOrZero (getD w 67 0) (getD w 68 0)) (thereOrZero (getD w 73 0) (getD w 74 0)) h in
+    let to-saved = both (eqb (getD w 63 0) 0 && eqb (getD w 64 0) 0) (thereOrZero (getD w 67 0) (getD w 68 0)) (all .0) in
+    let wait = both (eqb (getD w 63 0) 0) (eqb (getD w 64 0) 0) (to-saved .0) in
+    record { seconds = eqb-true _ _ (wait .0); fraction = eqb-true _ _ (wait .1); saved = to-saved .1; pending = all .1 }
+
+-- all of its words, where it does not wait
+pub whole : (w : List ℕ) → holdsState w ≡ true → getD w 62 0 ≡ 0 → restZero w ≡ true → clockZero w ≡ true → w ≡ stateWords (stateOf w)
+unfolding stateWords stateOf
+whole w holds ready rest clock =
     let long = held-length w holds in
-    let fits = middle (scanFits w) (displayFits w) (analogFits w) (powerFits w) (lineFits w) (both (eqb (length w) 75) _ holds .1) in
+    let fits = fit w holds in
+    let none = rest-zero w rest in
+    let line = serial-kept w long _ (fits .line-fits) (none .pending) in
     filled-all long
-    (filled-more _ 6 (length-serial l) put-serial
-    (filled-more _ 4 (length-address a) put-address
-    (filled-kept _ 10 (length-power (powerIn w)) (power-kept w long (fits .1 .1) e62 e63 e64)
-    (filled-kept _ 8 refl (analog-kept w long (fits .1 .0))
-    (filled-kept _ 20 (length-display (displayIn w)) (display-kept w long (fits .0))
-    (filled-more _ 27 (length-scan z) put-scan (filled-none w)))))))
+    (filled-kept (serialPart (serialIn w)) 6 (length-serial (serialIn w)) (line .1)
+    (filled-kept (addressPart (addressIn w)) 4 (length-address (addressIn w)) (address-kept w long (line .0) (none .saved))
+    (filled-kept (powerPart (powerIn w)) 10 (length-power (powerIn w)) (power-kept w long (fits .power-fits) ready (none .seconds) (none .fraction))
+    (filled-kept (analogPart (analogIn w)) 8 refl (analog-kept w long (fits .analog-fits))
+    (filled-kept (displayPart (displayIn w)) 20 (length-display (displayIn w)) (display-kept w long (fits .display-fits))
+    (filled-kept (scanPart (scanIn w)) 27 (length-scan (scanIn w)) (scan-kept w long (fits .scan-fits) clock) (filled-none w)))))))

@@ -4,6 +4,7 @@ mod Orders
 mod Fits
 pub mod Held
 pub mod Kept
+mod Moved
 pub mod RoundTrip
 pub mod Temperatures
 pub mod Usual

@@ -1,16 +1,17 @@
 -- A usual byte over words: what src/quick_words.rt puts into the block is what the group of eight bits leaves.
 use Prim.Native.Nat.{ℕ, _+_, _<_}
-use mathlib.Core.Bool.{Bool, true, false, cond, not, _&&_, _||_, false≢true}
+use mathlib.Core.Bool.{Bool, true, false, cond, not, _&&_, false≢true}
 use mathlib.Core.List.{List}
 use mathlib.Core.Option.{Option, none}
 use mathlib.Core.Path.{_≡_, refl, ap, sym, _∙_}
 use lib.Dec.{leb, eqb}
 use lib.ListN.{getD}
-use borrow.Author.Tests.{eqb-true, not-false}
-use Rattle.checks.proofs.Tests.{both, neither}
+use borrow.Author.Tests.{eqb-true}
+use Rattle.checks.proofs.Tests.{both}
 use Rattle.clock.specs.declared.time.Time.{Time}
 use Rattle.scan.specs.declared.settings.Settings as display
 use Rattle.scan.specs.declared.state.Scan.{Scan}
+use Rattle.scan.proofs.Leaves.{lasting}
 use Rattle.voltage.specs.declared.Settings as analog
 use Rattle.controller.specs.declared.state.Nt7508.{Nt7508}
 use Rattle.controller.specs.declared.state.Serial.{Serial}
@@ -20,24 +21,20 @@ use Rattle.controller.specs.declared.state.Ready.{Ready}
 use Rattle.controller.specs.declared.event.Store.{Store}
 use Rattle.controller.specs.declared.quick.Sent.{Sent}
 use Rattle.controller.specs.Byte.{waiting}
-use Rattle.controller.specs.Bits.{Outcome, taking, withBits, shiftIn}
+use Rattle.controller.specs.Bits.{Outcome, taking, shiftIn}
 use Rattle.controller.specs.Closed.{completes}
 use Rattle.controller.specs.Quick.{registersStay, usualByte, other, quickSent}
-use Rattle.controller.proofs.Usual.{stays, leftBy, quick-shift}
+use Rattle.controller.proofs.Usual.{stays, leftBy, quick-shift, scan-lasts, saved-lasts}
 use Rattle.ffi.specs.ClockWords.{time}
-use Rattle.ffi.specs.StateWords.{holdsState, scanIn, displayIn, analogIn, readyIn, powerIn, addressIn, serialIn, stateOf, scanPart, addressPart, serialPart, pasted, stateWords}
+use Rattle.ffi.specs.StateWords.{holdsState, scanIn, displayIn, analogIn, readyIn, powerIn, addressIn, serialIn, stateOf, stateWords}
+use Rattle.ffi.specs.QuickWords.{restZero, clockZero, sentPut}
 use Rattle.ffi.proofs.Kept.{whole}
+use Rattle.ffi.proofs.Moved.{sent-moved}
 
 -- the state put together from its groups
 pub made : (w : List ℕ) {z : Scan} {d : display.Settings} {a : analog.Settings} {p : Power} {at : Address} {l : Serial} → z ≡ scanIn w → d ≡ displayIn w → a ≡ analogIn w → p ≡ powerIn w → at ≡ addressIn w → l ≡ serialIn w → record { scan = z; display = d; analog = a; power = p; address = at; serial = l } ≡ stateOf w
 unfolding stateOf
 made w e f g h i j = λ t. record { scan = e t; display = f t; analog = g t; power = h t; address = i t; serial = j t }
-
--- two words that are not other than 0
-pub both-zero : (a b : ℕ) → not (eqb a 0) || not (eqb b 0) ≡ false → (a ≡ 0) × (b ≡ 0)
-both-zero a b h =
-    let zeros = neither (not (eqb a 0)) (not (eqb b 0)) h in
-    (eqb-true a 0 (not-false _ (zeros .0)), eqb-true b 0 (not-false _ (zeros .1)))
 
 -- no wait lasts
 ready-now : (w : List ℕ) → not (waiting (readyIn w)) ≡ true → getD w 62 0 ≡ 0
@@ -83,9 +80,12 @@ module _ (w : List ℕ) (b count : ℕ) (now : Time) (ram icons : List ℕ) (sma
       ∙ quick-shift (stateOf w) b now ram icons small (usual-is (stateOf w) b now ram icons is usual)
       ∙ ap {A = Sent} {B = Option ℕ × Outcome} (λ t. (none, leftBy (stateOf w) t ram icons)) (sym is)
 
-  pub sent-leaves : holdsState w ≡ true → (getD w 63 0 ≡ 0) × (getD w 64 0 ≡ 0) → {l : Serial} → l ≡ serialIn w → pasted (pasted (pasted w 0 (scanPart (s .scan))) 65 (addressPart (s .address))) 69 (serialPart (withBits l 0 0)) ≡ stateWords (shiftIn (stateOf w) b count now ram icons .1 .state)
+  pub sent-leaves : holdsState w ≡ true → restZero w ≡ true → clockZero w ≡ true → sentPut s w ≡ stateWords (shiftIn (stateOf w) b count now ram icons .1 .state)
   unfolding stateOf powerIn
-  sent-leaves holds zeros {l} line =
-      ap (λ (k : Serial). pasted (pasted (pasted w 0 (scanPart (s .scan))) 65 (addressPart (s .address))) 69 (serialPart (withBits k 0 0))) line
-      ∙ whole w (s .scan) (s .address) (withBits (serialIn w) 0 0) holds (ready-now w (usual-ready (stateOf w) b now ram icons (usual-is (stateOf w) b now ram icons is usual))) (zeros .0) (zeros .1) refl refl refl
+  sent-leaves holds rest clock =
+      let u = usual-is (stateOf w) b now ram icons is usual in
+      ap (sentPut s) (whole w holds (ready-now w (usual-ready (stateOf w) b now ram icons u)) rest clock)
+      ∙ sent-moved (stateOf w) s
+      (ap (λ (t : Sent). lasting (t .scan)) is ∙ scan-lasts (stateOf w) b now ram icons u)
+      (ap (λ (t : Sent). t .address .«saved_column») is ∙ saved-lasts (stateOf w) b now ram icons u)
       ∙ sym (ap (λ (r : Option ℕ × Outcome). stateWords (r .1 .state)) sent-shifts)

@@ -1,51 +1,61 @@
 // A usual byte over words (quick.rt of `controller`): the state is put together from the words and taken
-// apart again where it is used, each function here with one call, so that only scan, address and serial line
-// go back.
+// apart again where it is used, each function here with one call, so that only the words that such a byte can
+// change go back.
 ghost use mathlib.Core.Path.{_≡_};
 ghost use mathlib.Core.Bool.{true, cond};
 ghost use mathlib.Core.Option.{none};
 ghost use lib.ListN.{length};
 ghost use Rattle.controller.specs.Event.{ramAfter, iconsAfter};
-ghost use Rattle.controller.specs.Bits.{withBits, shiftIn};
+ghost use Rattle.controller.specs.Bits.{shiftIn};
 ghost use Rattle.controller.specs.Quick.{quickSent};
-ghost use Rattle.ffi.specs.StateWords.{holdsState, serialIn, stateOf, scanPart, addressPart, serialPart, pasted, stateWords};
+ghost use Rattle.ffi.specs.StateWords.{holdsState, stateOf, stateWords};
+ghost use Rattle.ffi.specs.QuickWords.{restZero, clockZero, clockPut, latchPut, countersPut, linePut, sentPut};
 ghost use Rattle.ffi.specs.ControllerWords.{eventWords};
 use crate::controller_words::event_words;
 use crate::state_words::address_in;
 use crate::state_words::analog_in;
 use crate::state_words::display_in;
 use crate::state_words::power_in;
-use crate::state_words::put_address;
-use crate::state_words::put_scan;
-use crate::state_words::put_serial;
 use crate::state_words::scan_in;
 use crate::state_words::serial_in;
 use clock::Time;
+use controller::Address;
 use controller::Nt7508;
 use controller::Sent;
-use controller::Serial;
+use scan::Scan;
+use scan::ScanClock;
 
-// No bit is under way.
-fn emptied(serial: Serial) -> Serial
-    ensures { λ r. ⌜ r ≡ withBits serial 0 0 ⌝ }
+// Words that stay must be those of what the block holds. A word that fits its field is, but where something is
+// not there its words are not read, and may be anything: they must be 0, as in all blocks of the library's own.
+// So of a wait, of a saved column and of an awaited command.
+fn rest_zero(w: &[u64]) -> bool
+    requires { ⌜ length (now w) ≡ 75 ⌝ }
+    ensures { λ r. ⌜ r ≡ restZero (now (w .entry)) ⌝ }
 {
-    let mut next = serial;
-    next.shift = 0;
-    next.bits = 0;
-    next
+    (w[63] == 0) & (w[64] == 0) & ((w[67] != 0) | (w[68] == 0)) & ((w[73] != 0) | (w[74] == 0))
 }
 
-// What the controller answers for the state of a block, whose serial line is given.
-fn sent_of(
-    w: &[u64],
-    serial: Serial,
-    byte: u8,
-    moment: Time,
-    ram: &mut [u8],
-    icons: &mut [u8],
-) -> Sent
+// So of a clock too. Most often it runs, and then its words are not looked at.
+fn clock_zero(w: &[u64]) -> bool
     requires { ⌜ length (now w) ≡ 75 ⌝ }
-    requires { ⌜ serial ≡ serialIn (now w) ⌝ }
+    ensures { λ r. ⌜ r ≡ clockZero (now (w .entry)) ⌝ }
+{
+    if w[0] != 0 {
+        return true;
+    }
+    (w[1] == 0)
+        & (w[2] == 0)
+        & (w[3] == 0)
+        & (w[4] == 0)
+        & (w[5] == 0)
+        & (w[6] == 0)
+        & (w[7] == 0)
+        & (w[8] == 0)
+}
+
+// What the controller answers for the state of a block.
+fn sent_of(w: &[u64], byte: u8, moment: Time, ram: &mut [u8], icons: &mut [u8]) -> Sent
+    requires { ⌜ length (now w) ≡ 75 ⌝ }
     ensures tells { λ r. ⌜ r ≡ quickSent (stateOf (now (w .entry))) byte moment (now (ram .entry)) (now (icons .entry)) ⌝ }
     ensures ram { λ r. ⌜ now (ram .exit) ≡ ramAfter (r .store) (now (ram .entry)) ⌝ }
     ensures icons { λ r. ⌜ now (icons .exit) ≡ iconsAfter (r .store) (now (icons .entry)) ⌝ }
@@ -55,6 +65,7 @@ fn sent_of(
     let analog = analog_in(w);
     let power = power_in(w);
     let address = address_in(w);
+    let serial = serial_in(w);
     let whole = Nt7508 {
         scan: scan,
         display: display,
@@ -66,21 +77,74 @@ fn sent_of(
     whole.quick_byte(byte, moment, ram, icons)
 }
 
-// Scan, address and serial line go out, and the event.
-fn put_sent(sent: Sent, serial: Serial, words: &mut [u64], event: &mut [u64; 8])
+// A clock that runs goes on: its last edge, fraction and ordinal change, its period stays.
+fn put_clock(clock: ScanClock, words: &mut [u64])
     requires { ⌜ length (now words) ≡ 75 ⌝ }
-    ensures leaves { λ _. ⌜ now (words .exit) ≡ pasted (pasted (pasted (now (words .entry)) 0 (scanPart (sent .scan))) 65 (addressPart (sent .address))) 69 (serialPart (withBits serial 0 0)) ⌝ }
+    ensures { λ _. ⌜ now (words .exit) ≡ clockPut clock (now (words .entry)) ⌝ }
+{
+    let ScanClock::Running(running) = clock else {
+        return;
+    };
+    let at = running.at;
+    words[1] = at.seconds;
+    words[2] = at.fraction;
+    words[7] = running.fraction;
+    words[8] = running.ordinal;
+}
+
+fn put_latch(scan: Scan, words: &mut [u64])
+    requires { ⌜ length (now words) ≡ 75 ⌝ }
+    ensures { λ _. ⌜ now (words .exit) ≡ latchPut scan (now (words .entry)) ⌝ }
+{
+    let latch = scan.latch;
+    let segments = latch.segments;
+    words[11] = segments[0];
+    words[12] = segments[1];
+    words[13] = latch.latched as u64;
+}
+
+fn put_counters(scan: Scan, words: &mut [u64])
+    requires { ⌜ length (now words) ≡ 75 ⌝ }
+    ensures { λ _. ⌜ now (words .exit) ≡ countersPut scan (now (words .entry)) ⌝ }
+{
+    let inversion = scan.inversion;
+    words[21] = scan.row as u64;
+    words[22] = scan.step as u64;
+    words[23] = scan.frc as u64;
+    words[25] = inversion.count as u64;
+    words[26] = inversion.inverted as u64;
+}
+
+// Page and column, and no bit is under way.
+fn put_line(address: Address, words: &mut [u64])
+    requires { ⌜ length (now words) ≡ 75 ⌝ }
+    ensures { λ _. ⌜ now (words .exit) ≡ linePut address (now (words .entry)) ⌝ }
+{
+    words[65] = address.page as u64;
+    words[66] = address.column_byte as u64;
+    words[71] = 0;
+    words[72] = 0;
+}
+
+// What a usual byte can change goes out, and the event.
+fn put_sent(sent: Sent, words: &mut [u64], event: &mut [u64; 8])
+    requires { ⌜ length (now words) ≡ 75 ⌝ }
+    ensures leaves { λ _. ⌜ now (words .exit) ≡ sentPut sent (now (words .entry)) ⌝ }
     ensures tells { λ _. ⌜ now (event .exit) ≡ eventWords (sent .event) ⌝ }
 {
-    put_scan(sent.scan, words);
-    put_address(sent.address, words);
-    put_serial(emptied(serial), words);
+    let scan = sent.scan;
+    let ticking = scan.ticking;
+    let clock = ticking.clock;
+    put_clock(clock, words);
+    put_latch(scan, words);
+    put_counters(scan, words);
+    put_line(sent.address, words);
     let told = sent.event;
     *event = event_words(told);
 }
 
-// Whether a group is a usual byte, which then is taken. Words of a wait that is none must be 0, as all of
-// the library's own are, for they stay.
+// Whether a group is a usual byte, which then is taken. Two tests of words that stay, each with its branch: that
+// is faster than one.
 pub(crate) fn quick_byte(
     state: &mut [u64],
     bits: u8,
@@ -101,14 +165,16 @@ pub(crate) fn quick_byte(
     if count != 8 {
         return false;
     }
-    if (state[63] != 0) | (state[64] != 0) {
+    if !rest_zero(state) {
         return false;
     }
-    let serial = serial_in(state);
-    let sent = sent_of(state, serial, bits, moment, ram, icons);
+    if !clock_zero(state) {
+        return false;
+    }
+    let sent = sent_of(state, bits, moment, ram, icons);
     if !sent.usual {
         return false;
     }
-    put_sent(sent, serial, state, event);
+    put_sent(sent, state, event);
     true
 }

@@ -578,7 +578,7 @@ fn put(words: &[u64], at: usize, out: &mut [u64])
 }
 
 // The groups of a state into a block, each at its place.
-pub(crate) fn put_scan(scan: Scan, out: &mut [u64])
+fn put_scan(scan: Scan, out: &mut [u64])
     requires { ⌜ length (now out) ≡ 75 ⌝ }
     ensures { λ _. ⌜ now (out .exit) ≡ pasted (now (out .entry)) 0 (scanPart scan) ⌝ }
 {
@@ -610,7 +610,7 @@ fn put_power(power: Power, out: &mut [u64])
     put(&words, 55, out);
 }
 
-pub(crate) fn put_address(address: Address, out: &mut [u64])
+fn put_address(address: Address, out: &mut [u64])
     requires { ⌜ length (now out) ≡ 75 ⌝ }
     ensures { λ _. ⌜ now (out .exit) ≡ pasted (now (out .entry)) 65 (addressPart address) ⌝ }
 {
@@ -618,7 +618,7 @@ pub(crate) fn put_address(address: Address, out: &mut [u64])
     put(&words, 65, out);
 }
 
-pub(crate) fn put_serial(serial: Serial, out: &mut [u64])
+fn put_serial(serial: Serial, out: &mut [u64])
     requires { ⌜ length (now out) ≡ 75 ⌝ }
     ensures { λ _. ⌜ now (out .exit) ≡ pasted (now (out .entry)) 69 (serialPart serial) ⌝ }
 {

@@ -14,6 +14,7 @@ pub mod Images
 pub mod Runs
 mod Packing
 mod Steady
+pub mod Leaves
 pub mod Usual
 pub mod Drives
 pub mod Held

@@ -1,7 +1,7 @@
 -- The usual byte: counting with one check of the clock, by one piece with every setting in force, and what the rule leaves of the
 -- byte.
 use Prim.Native.Nat.{ℕ, zero, suc, _+_, _%_, _^_, _≤_, min}
-use mathlib.Core.Bool.{Bool, true, false, cond, not, _&&_, _||_}
+use mathlib.Core.Bool.{Bool, true, false, cond, not, _&&_, _||_, false≢true}
 use mathlib.Core.List.{List}
 use mathlib.Core.Option.{Option, none}
 use mathlib.Core.Path.{_≡_, refl, sym, _∙_, ap}
@@ -13,7 +13,7 @@ use Rattle.clock.specs.declared.time.Time.{Time}
 use Rattle.clock.specs.declared.check.Refusal.{Refusal}
 use Rattle.clock.specs.declared.edges.Clock.{Clock}
 use Rattle.clock.specs.declared.edges.Passed.{Passed}
-use Rattle.clock.specs.Check.{validClock}
+use Rattle.clock.specs.Check.{validClock, checkClock}
 use Rattle.clock.specs.Edges.{answeredPass, movedBy, edgesTo, passEdges}
 use Rattle.clock.specs.Rate.{sameRate}
 use Rattle.clock.specs.Time.{raw, inRange}
@@ -35,6 +35,7 @@ use Rattle.scan.specs.Quick.{told, other, checksPass, oneCount, countedQ
 use Rattle.scan.proofs.Checks.{Valid, Lent, lent, valid-scan, valid-settings, valid-lcd, check-by}
 use Rattle.scan.proofs.Drives.{counted-passes}
 use Rattle.scan.proofs.Due.{due-stopped, counted-none}
+use Rattle.scan.proofs.Leaves.{lasting, moved-lasts, retained-lasts}
 use Rattle.scan.proofs.Pieces.{few, limit-all, within, all-ends, none-after, piece-whole, piece-counts, due-none, due-some}
 use Rattle.scan.proofs.Quanta.{whole, tickingIn, latchIn, Ok, flat, rate-stays, none-counted}
 use Rattle.scan.proofs.Steady.{settled-same}
@@ -262,3 +263,38 @@ module _ (x : Scan) (s : Settings) (now : Time) (running : Running) (ram icons :
     quick-done page ey =
         rw is-usual
         (ap told (ey ∙ ap (λ (z : Scan). retained z s page ram icons) quick-scan ∙ sym (usual-scan-after is-usual page)))
+
+-- ---- what it leaves as it is
+module _ (x : Scan) (s : Settings) (now : Time) (pre : (inRange now ≡ true) × ((validSettings s ≡ true) × (validScan x ≡ true))) {c : Clock} (running : x .ticking .clock ≡ ScanClock.Running c) (clock-ok : validClock c (x .ticking .rate) ≡ true) (h : inForce x s ≡ true) (is-due : due x now ≡ true) where
+  abbrev edges : ℕ
+  edges = min (edgesTo c (x .ticking .rate) now) 18446744073709551615
+
+  passing : answeredPass (Passed.Edges edges (movedBy c (x .ticking .rate) edges)) ≡ passEdges c (x .ticking .rate) now 18446744073709551615
+  unfolding passEdges checkClock
+  passing = rw (pre .0, valid-lcd x (pre .1 .1), clock-ok)
+
+  some-edge : edges ≡ 0 → ⊥
+  some-edge e =
+      let none-due = due-none x s (v x s now pre running _ passing refl) c running now (sym (count x s now pre running _ passing refl) ∙ e) in
+      false≢true (sym none-due ∙ is-due)
+
+  count-lasts : lasting (countTo x s now) ≡ lasting x
+  count-lasts = ap lasting (counted x s now pre running _ passing refl some-edge h) ∙ moved-lasts x edges running
+
+module _ (x : Scan) (s : Settings) (now : Time) (running : Running) (ram icons : List ℕ) (u : usual x s now running ram icons ≡ true) where
+  counted-lasts : lasting (countTo x s now) ≡ lasting x
+  unfolding oneCount validRunning
+  counted-lasts =
+      let k = passes x s now running ram icons u in
+      let one = both (validRunning (x .ticking .clock) (x .ticking .rate)) (not (due x now) || inForce x s) (then x s now running ram icons u .0) in
+      go (due x now) refl (x .ticking .clock) refl (one .0) (one .1)
+    where
+      go : (d : Bool) → due x now ≡ d → (clock : ScanClock) → x .ticking .clock ≡ clock → validRunning clock (x .ticking .rate) ≡ true → not d || inForce x s ≡ true → lasting (countTo x s now) ≡ lasting x
+      go false d clock is ok h = ap lasting (sym (counted-none x s now d))
+      go true d ScanClock.Stopped is ok h = absurd (false≢true (due-stopped x now is ∙ d))
+      go true d (ScanClock.Running c) is ok h =
+          let k = passes x s now running ram icons u in
+          count-lasts x s now (k .in-range, (k .settings-ok, k .scan-ok)) is ok h d
+
+  pub usual-lasts : (page : DataPage) → lasting (byteScan x s s now page running ram icons .1) ≡ lasting x
+  usual-lasts page = ap lasting (usual-scan-after x s now running ram icons u page) ∙ retained-lasts (countTo x s now) s page ram icons ∙ counted-lasts

@@ -10,14 +10,15 @@ use Rattle.ffi.proofs.quick_words.sent_of.Tie as tie
 returns : tie.Need-returns
 returns c =
     let at-call = c .before .before .before .before in
-    let at-address-in = at-call .before .before .before in
+    let at-serial-in = at-call .before .before .before in
+    let at-address-in = at-serial-in .before in
     let at-power-in = at-address-in .before in
     let at-analog-in = at-power-in .before in
     let at-display-in = at-analog-in .before in
     let at-scan-in = at-display-in .before in
     let start = at-scan-in .before .before .before .before in
     let a = start .args in
-    let is = made (a .w .now) (at-scan-in .scan-in .ensures) (at-display-in .display-in .ensures) (at-analog-in .analog-in .ensures) (at-power-in .power-in .ensures) (at-address-in .address-in .ensures) (start .pre .1) in
+    let is = made (a .w .now) (at-scan-in .scan-in .ensures) (at-display-in .display-in .ensures) (at-analog-in .analog-in .ensures) (at-power-in .power-in .ensures) (at-address-in .address-in .ensures) (at-serial-in .serial-in .ensures) in
     let sent = at-call .quick-byte .ensures in
     (sent .0 ∙ ap (λ (x : Nt7508). quickSent x (a .byte) (a .moment) (a .ram .now) (a .icons .now)) is, (sent .1 .0, sent .1 .1))
 
@@ -25,6 +26,7 @@ pub sent-of-spec : {M : Type 1} → statement M
 sent-of-spec =
     tie.close
     (tie.spec
+    (λ c κs. search needs)
     (λ c κs. search needs)
     (λ c κs. search needs)
     (λ c κs. search needs)
