@@ -17,15 +17,17 @@ use Rattle.scan.specs.declared.run.Running.{Running}
 use Rattle.scan.specs.declared.count.Counted.{Counted}
 use Rattle.scan.specs.declared.check.Changed.{Changed}
 use Rattle.scan.specs.declared.check.Check.{Check}
+use Rattle.scan.specs.declared.check.Refusal.{Refusal}
 use Rattle.scan.specs.declared.drive.Conditions.{Conditions}
 use Rattle.scan.specs.declared.drive.Driven.{Driven}
 use Rattle.scan.specs.Check.{refused, answered, validSettings, checkMoment, checkLent, checkImage}
 use Rattle.scan.specs.Count.{countTo, pieces, answeredCount, countScan}
+use Rattle.scan.specs.Closed.{checkButClock, countClock}
 use Rattle.scan.specs.Latch.{retained}
 use Rattle.scan.specs.Run.{stopped, resumed, updated, beforeByte, afterByte, fallScan, riseScan}
 use Rattle.scan.specs.Drive.{driveAt, frameAt, off, answeredDrive, driveScan}
 use Rattle.scan.specs.Image.{image, rendered}
-use Rattle.scan.proofs.Checks.{Valid, ValidSettings}
+use Rattle.scan.proofs.Checks.{Valid, ValidSettings, passes, passed-answer, refused-answer, but-clock-passed}
 use Rattle.scan.proofs.Stages.{at-most-four}
 use Rattle.voltage.specs.declared.Settings as analog
 use Rattle.voltage.specs.Check as analogs
@@ -55,6 +57,31 @@ module _ (x : Scan) (s : Settings) (now : Time) where
   count-passed r e h =
       let q = new-of (countTo x s now, pieces x s now) (x, 0) e h in
       λ i. record { check = not-refused (r .check) (q .0) i; scan = q .1 i .0; pieces = q .1 i .1 }
+
+  -- once all but number 5 pass, what the clock leaves of the count is the count
+  pub clock-last : checkButClock x (validSettings s) now ≡ none → countClock x s now ≡ countScan x s now
+  unfolding countClock countScan
+  clock-last h = ap (λ (k : Option ℕ). changed k (countTo x s now, pieces x s now) (x, 0)) (but-clock-passed x (validSettings s) now h)
+
+  -- a fall by the answer of its count, whose check is the fall's
+  module _ (r : Counted) (e : answeredCount r ≡ countScan x s now) where
+    check-is : refused (r .check) ≡ checkMoment x (validSettings s) now
+    unfolding countScan
+    check-is = ap (λ (p : Option ℕ × (Scan × ℕ)). p .0) e
+
+    given-back : {why : Refusal} → r .check ≡ Check.Refused why → r .scan ≡ x
+    unfolding countScan
+    given-back h = ap (λ (p : Option ℕ × (Scan × ℕ)). p .1 .0) e ∙ rw (← check-is, h)
+
+    pub fall-refused : {why : Refusal} → r .check ≡ Check.Refused why → (refused (r .check), r .scan) ≡ fallScan x s now
+    unfolding fallScan
+    fall-refused h = ap (λ (y : Scan). (refused (r .check), y)) (given-back h) ∙ refused-answer check-is (stopped (countTo x s now)) x h
+
+    pub fall-stopped : r .check ≡ Check.Passed → {y : Scan} → y ≡ stopped (r .scan) → (none, y) ≡ fallScan x s now
+    unfolding fallScan
+    fall-stopped h ey =
+        let counted = ap (λ (c : Counted). c .scan) (count-passed r e (passes check-is h)) in
+        ap (λ (y : Scan). (none, y)) (ey ∙ ap stopped counted) ∙ passed-answer check-is (stopped (countTo x s now)) x h
 
   pub fall-passed : (r : Changed) → answered r ≡ fallScan x s now → checkMoment x (validSettings s) now ≡ none → r ≡ record { check = Check.Passed; scan = stopped (countTo x s now) }
   unfolding fallScan

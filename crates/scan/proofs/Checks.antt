@@ -9,7 +9,7 @@ use native.Mathlib.Omega.{arith}
 use lib.Dec.{leb, ltb, eqb}
 use lib.ListN.{length}
 use borrow.Author.Tests.{lt-ltb, ltb-true, le-leb, leb-true, eq-eqb, eqb-true}
-use Rattle.checks.specs.Checks.{row, changed}
+use Rattle.checks.specs.Checks.{row, firstOf, changed}
 use Rattle.checks.proofs.Chains.{first-passed, row-passed}
 use Rattle.checks.proofs.Tests.{both, either}
 use Rattle.clock.specs.Rate.{isLcd}
@@ -17,7 +17,9 @@ use Rattle.clock.specs.Check.{validClock, checkClock}
 use Rattle.clock.proofs.Answers.{check-passed, check-valid}
 use Rattle.clock.specs.Time.{inRange}
 use Rattle.scan.specs.Check.{refused, linesOk, validSettings, frcCountOk, validFrame, pwmOk, validInversion, validScan, validRunning, checkScan, memoryOk, imageOk, inOrder, checkMoment, checkLent, checkImage}
-use Rattle.scan.specs.State.{rows}
+use Rattle.scan.specs.State.{rows, withTicking}
+use Rattle.scan.specs.Run.{stopped}
+use Rattle.scan.specs.Closed.{checkButClock}
 use Rattle.clock.specs.declared.time.Time.{Time}
 use Rattle.clock.specs.declared.edges.Clock.{Clock}
 use Rattle.scan.specs.declared.settings.Settings.{Settings}
@@ -135,9 +137,18 @@ pub valid-lcd : (x : Scan) → validScan x ≡ true → isLcd (x .ticking .rate)
 unfolding validScan
 valid-lcd x v = both _ _ (both _ _ (both _ _ (both _ _ (both _ _ (both _ _ v .0) .0) .0) .0) .0) .0
 
+pub valid-of : (x : Scan) → checkScan x ≡ none → validScan x ≡ true
+unfolding checkScan
+valid-of x h = row-passed 4 _ (first-passed _ _ h .0)
+
 pub check-by : (x : Scan) → validScan x ≡ true → validRunning (x .ticking .clock) (x .ticking .rate) ≡ true → checkScan x ≡ none
 unfolding checkScan
 check-by x v k = simp (v, k)
+
+-- a scan that passes it has counters in range: it passes number 5 too with its clock stopped
+pub counters-in-range : (x : Scan) → validScan x ≡ true → Valid (stopped x)
+unfolding validScan validRunning stopped withTicking
+counters-in-range x v = valid-scan (stopped x) (check-by (stopped x) v refl)
 
 -- number 5 by the clock's own check
 module _ (x : Scan) (c : Clock) (k : verdict.Check) (v : validScan x ≡ true) (e : x .ticking .clock ≡ ScanClock.Running c) (h : clocks.refused k ≡ checkClock c (x .ticking .rate)) where
@@ -211,6 +222,32 @@ unfolding checkMoment
 timed x ok now h =
     let p = in-order-passed _ _ _ _ _ h in
     record { in-range = row-passed 1 _ (p .1 .1 .0); settings-ok = row-passed 3 _ (p .1 .1 .1 .0); scan-passed = p .1 .1 .1 .1 }
+
+pub timed-check : (x : Scan) (ok : Bool) (now : Time) → Timed x ok now → checkMoment x ok now ≡ none
+unfolding checkMoment inOrder
+timed-check x ok now t = simp (t .in-range, t .settings-ok, t .scan-passed)
+
+-- its checks are those but number 5, and then number 5
+last-row : (a b c d : Option ℕ) → firstOf a (firstOf b (firstOf c d)) ≡ firstOf (firstOf a (firstOf b c)) d
+last-row none none c d = refl
+last-row none (some n) c d = refl
+last-row (some n) b c d = refl
+
+module _ (x : Scan) (ok : Bool) (now : Time) where
+  then-clock : checkMoment x ok now ≡ firstOf (checkButClock x ok now) (row 5 (validRunning (x .ticking .clock) (x .ticking .rate)))
+  unfolding checkMoment checkButClock checkScan inOrder
+  then-clock = last-row (row 1 (inRange now)) (row 3 ok) (row 4 (validScan x)) (row 5 (validRunning (x .ticking .clock) (x .ticking .rate)))
+
+  pub but-clock-refused : {check : Check} → refused check ≡ checkButClock x ok now → {why : Refusal} → check ≡ Check.Refused why → refused check ≡ checkMoment x ok now
+  but-clock-refused e h = sym (then-clock ∙ rw (← e, h))
+
+  module _ (passed : checkButClock x ok now ≡ none) where
+    pub but-clock-passed : row 5 (validRunning (x .ticking .clock) (x .ticking .rate)) ≡ checkMoment x ok now
+    but-clock-passed = sym (then-clock ∙ rw passed)
+
+    pub but-clock-rows : (inRange now ≡ true) × ((ok ≡ true) × (validScan x ≡ true))
+    unfolding checkButClock
+    but-clock-rows = let p = in-order-passed _ _ _ _ _ passed in (row-passed 1 _ (p .1 .1 .0), (row-passed 3 _ (p .1 .1 .1 .0), row-passed 4 _ (p .1 .1 .1 .1)))
 
 -- what lent memory is, once it passes
 pub record Lent (ram icons : List ℕ) : Type 0 where

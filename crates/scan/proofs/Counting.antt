@@ -98,7 +98,7 @@ module _ (s : Settings) (vs : ValidSettings s) (now : Time) (i : inRange now ≡
       go false d on = refl
 
   -- a quantum that is due is part of the count
-  count-quantum : (x : Scan) → Valid x → due x now ≡ true → countTo (quantum x s) s now ≡ countTo x s now
+  pub count-quantum : (x : Scan) → Valid x → due x now ≡ true → countTo (quantum x s) s now ≡ countTo x s now
   unfolding countTo countFor
   count-quantum x v d =
       let l = quantum-later x v d in

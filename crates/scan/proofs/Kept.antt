@@ -21,13 +21,14 @@ use Rattle.scan.specs.Check.{linesOk, frcCountOk, pwmOk, validRunning}
 use Rattle.scan.specs.Count.{dueAt, due}
 use Rattle.scan.specs.Quantum.{rowEnds, frameEnds, linesEnd, countOn, inversionAfter, frameAfter, ticked, tickedTo, quantum}
 use Rattle.scan.specs.Settings.{pwmWidths, pwmOf, frcCountOf, frameOf, rowsOf, rowsIn, rateOf}
-use Rattle.scan.specs.State.{rows}
+use Rattle.scan.specs.State.{rows, withTicking}
 use Rattle.scan.proofs.Checks.{Valid, FrameFits, InversionFits, ValidSettings}
 use Rattle.scan.specs.declared.settings.Settings.{Settings}
 use Rattle.scan.specs.declared.settings.Frame.{Frame}
 use Rattle.scan.specs.declared.state.Scan.{Scan}
 use Rattle.scan.specs.declared.state.Inversion.{Inversion}
 use Rattle.scan.specs.declared.state.ScanClock.{ScanClock}
+use Rattle.scan.specs.declared.state.Ticking.{Ticking}
 
 -- what the settings give is in range
 pub pwm-of-ok : (g : ℕ) → pwmOk (pwmOf g) ≡ true
@@ -147,20 +148,20 @@ ticked-valid (ScanClock.Running c) r new now i l m v d = go (sameRate r new) ref
     go true h = rw (← same-rate r new h) (valid-test (movedBy c r 1) r (moved-valid c r (omega (arith, lcd-bounds r l .low)) 1 (valid c r v) range))
     go false h = valid-test (started (movedBy c r 1 .at) new) new (started-valid (movedBy c r 1 .at) new m range)
 
-module _ (s : Settings) (vs : ValidSettings s) (now : Time) (i : inRange now ≡ true) where
-  pub quantum-valid : (x : Scan) → Valid x → due x now ≡ true → Valid (quantum x s)
-  unfolding quantum tickedTo frameAfter frameEnds rowEnds due
-  quantum-valid x v d = go (leb (x .pwm) (x .step + 1)) refl (leb (rows x) (x .row + 1)) refl
+module _ (s : Settings) (vs : ValidSettings s) where
+  frame-after-fits : (x : Scan) → Valid x → FrameFits (frameAfter x s)
+  unfolding frameAfter
+  frame-after-fits x v = go (frameEnds x)
     where
-      kept-lcd : isLcd (rateOf s (rows x)) ≡ true
-      kept-lcd = rate-lcd s vs (x .frame) (v .frame)
+      go : (t : Bool) → FrameFits (cond t (frameOf s) (x .frame))
+      go true = frame-of-fits s vs
+      go false = v .frame
 
-      new-lcd : isLcd (rateOf s (rowsIn (frameOf s))) ≡ true
-      new-lcd = rate-lcd s vs (frameOf s) (frame-of-fits s vs)
-
-      ticks : (new : Rate) → isLcd new ≡ true → validRunning (ticked (x .ticking .clock) (x .ticking .rate) new) new ≡ true
-      ticks new l = ticked-valid (x .ticking .clock) (x .ticking .rate) new now i (v .lcd) l (v .clock-ok) d
-
+  -- the counters of a quantum, with any clock and rate that pass
+  pub counters-valid : (x : Scan) → Valid x → (t : Ticking) → isLcd (t .rate) ≡ true → validRunning (t .clock) (t .rate) ≡ true → Valid (withTicking (quantum x s) t)
+  unfolding withTicking quantum frameAfter frameEnds rowEnds
+  counters-valid x v t l k = go (leb (x .pwm) (x .step + 1)) refl (leb (rows x) (x .row + 1)) refl
+    where
       pos : 0 < pwmOf (s .«gray_mode»)
       pos = pwm-pos (pwmOf (s .«gray_mode»)) (pwm-of-ok (s .«gray_mode»))
 
@@ -173,34 +174,41 @@ module _ (s : Settings) (vs : ValidSettings s) (now : Time) (i : inRange now ≡
       first-row : 0 < rowsIn (frameOf s)
       first-row = let f = frame-of-fits s vs in omega (arith, rows-low (frameOf s), f .duty-low)
 
-      go : (a : Bool) → leb (x .pwm) (x .step + 1) ≡ a → (b : Bool) → leb (rows x) (x .row + 1) ≡ b → Valid (quantum x s)
-      go false h b k = simp h (record {
-        lcd = kept-lcd;
+      go : (a : Bool) → leb (x .pwm) (x .step + 1) ≡ a → (b : Bool) → leb (rows x) (x .row + 1) ≡ b → Valid (withTicking (quantum x s) t)
+      go false h b g = simp h (record {
+        lcd = l;
         frame = v .frame;
         pwm-ok = v .pwm-ok;
         step-below = leb-false (x .pwm) (x .step + 1) h;
         frc-below = v .frc-below;
         row-below = v .row-below;
         inversion = inverts false false;
-        clock-ok = ticks (rateOf s (rows x)) kept-lcd;
+        clock-ok = k;
       })
-      go true h false k = simp (h, k) (record {
-        lcd = kept-lcd;
+      go true h false g = simp (h, g) (record {
+        lcd = l;
         frame = v .frame;
         pwm-ok = pwm-of-ok (s .«gray_mode»);
         step-below = pos;
         frc-below = v .frc-below;
-        row-below = leb-false (rows x) (x .row + 1) k;
+        row-below = leb-false (rows x) (x .row + 1) g;
         inversion = inverts true false;
-        clock-ok = ticks (rateOf s (rows x)) kept-lcd;
+        clock-ok = k;
       })
-      go true h true k = simp (h, k) (record {
-        lcd = new-lcd;
+      go true h true g = simp (h, g) (record {
+        lcd = l;
         frame = frame-of-fits s vs;
         pwm-ok = pwm-of-ok (s .«gray_mode»);
         step-below = pos;
         frc-below = rw (frc-count-taken s) (mod-lt (x .frc + 1) phase);
         row-below = first-row;
         inversion = inverts true true;
-        clock-ok = ticks (rateOf s (rowsIn (frameOf s))) new-lcd;
+        clock-ok = k;
       })
+
+  module _ (now : Time) (i : inRange now ≡ true) where
+    pub quantum-valid : (x : Scan) → Valid x → due x now ≡ true → Valid (quantum x s)
+    unfolding withTicking quantum tickedTo due
+    quantum-valid x v d =
+        let lcd = rate-lcd s vs (frameAfter x s) (frame-after-fits x v) in
+        counters-valid x v (quantum x s .ticking) lcd (ticked-valid (x .ticking .clock) (x .ticking .rate) (rateOf s (rowsIn (frameAfter x s))) now i (v .lcd) lcd (v .clock-ok) d)

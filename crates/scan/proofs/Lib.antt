@@ -3,6 +3,7 @@ mod Numbers
 mod Quanta
 mod Pieces
 mod Stages
+mod Stretches
 mod Rows
 pub mod Checks
 pub mod Kept

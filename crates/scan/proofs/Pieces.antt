@@ -5,38 +5,37 @@ use mathlib.Core.Logic.{_⊎_, inl, inr}
 use mathlib.Core.Option.{none}
 use mathlib.Core.Path.{_≡_, refl, sym, _∙_, ap}
 use native.Mathlib.Omega.{arith}
+use native.Mathlib.Numerals.{add-one}
 use native.Mathlib.Nat.{div-self, mul-div-cancel, div-eq-of-lt, div-lt-iff-lt-mul, min-eq-left, min-eq-right}
-use lib.Dec.{leb, ltb, eqb}
-use borrow.Author.Tests.{eq-eqb, ne-eqb, eqb-true, le-leb, leb-true, leb-false, lt-ltb, ltb-true, ltb-false}
+use lib.Dec.{leb, ltb}
+use borrow.Author.Tests.{eq-eqb, ne-eqb, eqb-true, le-leb, leb-true, leb-false, lt-ltb, le-ltb, ltb-true, ltb-false}
 use Rattle.clock.specs.declared.time.Time.{Time}
 use Rattle.clock.specs.declared.rate.Rate.{Rate}
 use Rattle.clock.specs.declared.edges.Clock.{Clock}
-use Rattle.checks.proofs.Tests.{both, ltb-same}
+use Rattle.checks.proofs.Tests.{same, both}
 use Rattle.clock.specs.Check.{validClock}
-use Rattle.clock.specs.Edges.{answeredPass, started, movedBy, edgesTo, passEdges}
-use Rattle.clock.specs.Rate.{sameRate, isLcd}
+use Rattle.clock.specs.Edges.{answeredPass, movedBy, edgesTo, passEdges}
+use Rattle.clock.specs.Rate.{isLcd}
 use Rattle.clock.specs.Time.{raw, inRange}
 use Rattle.clock.proofs.Checks.{valid}
 use Rattle.clock.proofs.Laws.{earlier-in-range, moved-moved, edge-counted, counts-edge, edges-apart, edges-le}
 use Rattle.clock.proofs.Rates.{lcd-bounds, same-rate, same-refl}
-use Rattle.scan.specs.Check.{validSettings, validRunning, checkScan}
-use Rattle.scan.specs.Closed.{quanta, tickedBy, inversionIn, endedRows, endedFrames, after, closed, limitIn, endsAt, endsWithin, pieceOf}
+use Rattle.scan.specs.Check.{validScan, validRunning, checkScan}
+use Rattle.scan.specs.Closed.{quanta, tickedBy, inversionIn, endedRows, endedFrames, after, closed, limitIn, edgesIn}
 use Rattle.scan.specs.Count.{dueAt, due, countFor, countTo, rowSame, sameFrame, frameSame, rateSame, limitWith, pieceLimit, piece, piecesFor}
-use Rattle.scan.specs.Quantum.{quantum}
-use Rattle.scan.specs.Settings.{pwmOf, frameOf, rowsIn, rateOf}
-use Rattle.scan.specs.State.{rows, withTicking}
-use Rattle.scan.proofs.Checks.{Valid, ValidSettings, valid-scan, valid-settings}
-use Rattle.scan.proofs.Counting.{count-none, count-valid, count-on}
-use Rattle.scan.proofs.Kept.{rate-lcd, frame-of-fits}
+use Rattle.scan.specs.Quantum.{ticked, tickedTo, quantum}
+use Rattle.scan.specs.Settings.{pwmOf, frameOf, rateOf}
+use Rattle.scan.specs.State.{rows}
+use Rattle.scan.proofs.Checks.{Valid, ValidSettings, valid-lcd, check-by}
+use Rattle.scan.proofs.Counting.{count-valid, count-on}
 use Rattle.scan.proofs.Numbers.{beq-true, beq-refl, row-left}
-use Rattle.scan.proofs.Quanta.{RowSettled, Ok, rateAfter, tickingIn, latchIn, whole, rate-stays, none-counted, quanta-whole}
+use Rattle.scan.proofs.Quanta.{RowSettled, Ok, rateAfter, tickingIn, whole, ticked-once, ticked-ticked, rate-stays, quanta-whole}
 use Rattle.clock.specs.declared.check.Refusal.{Refusal}
 use Rattle.clock.specs.declared.edges.Passed.{Passed}
-use Rattle.clock.proofs.Answers.{pass-passed}
+use Rattle.clock.proofs.Answers.{pass-passed, pass-valid, pass-refused}
 use Rattle.scan.specs.declared.settings.Settings.{Settings}
 use Rattle.scan.specs.declared.state.Scan.{Scan}
 use Rattle.scan.specs.declared.state.ScanClock.{ScanClock}
-use Rattle.scan.specs.declared.state.Ticking.{Ticking}
 use Rattle.scan.specs.declared.settings.Frame.{Frame}
 
 -- the comparison of what two frame ends took
@@ -77,7 +76,7 @@ module _ (x : Scan) (s : Settings) where
   unfolding frameSame
   frame-settled h = same-frame (frameOf s) (x .frame) h
 
-  rate-settled : rateSame x s ≡ true → rateOf s (rows x) ≡ x .ticking .rate
+  pub rate-settled : rateSame x s ≡ true → rateOf s (rows x) ≡ x .ticking .rate
   unfolding rateSame
   rate-settled h = sym (same-rate (x .ticking .rate) (rateOf s (rows x)) h)
 
@@ -136,117 +135,132 @@ module _ (x : Scan) (s : Settings) (v : Valid x) where
       go true true false = omega (arith, v .step-below, row-left (rows x) (x .row) (x .pwm) (v .row-below))
       go true true true = h
 
--- the quanta that are due, by the edges of the scan's clock
-module _ (x : Scan) (s : Settings) (v : Valid x) (c : Clock) (running : x .ticking .clock ≡ ScanClock.Running c) (now : Time) where
+-- n quanta at one rate
+abbrev pub Steady : Scan → Settings → ℕ → Type 0
+Steady x s n = (m : ℕ) → m ≤ n → quanta m x s .ticking .rate ≡ x .ticking .rate
+
+-- they tick the clock n times, and one more takes the rate of the rows then held
+module _ (x : Scan) (s : Settings) where
+  clock-on : (n : ℕ) → Steady x s (suc n) → quanta (suc n) x s .ticking .clock ≡ tickedBy (suc n) (x .ticking .clock) (x .ticking .rate) (x .ticking .rate)
+  unfolding quanta quantum tickedTo
+  clock-on zero st = ticked-once (x .ticking .clock) (x .ticking .rate) (quanta 1 x s .ticking .rate) ∙ ap (tickedBy 1 (x .ticking .clock) (x .ticking .rate)) (st 1 (omega arith))
+  clock-on (suc n) st =
+      (λ j. ticked (clock-on n (λ m h. st m (omega arith)) j) (st (suc n) (omega arith) j) (st (suc (suc n)) (omega arith) j))
+      ∙ ticked-ticked (suc n) (x .ticking .clock) (x .ticking .rate) (x .ticking .rate)
+      ∙ ap (λ (m : ℕ). tickedBy m (x .ticking .clock) (x .ticking .rate) (x .ticking .rate)) (add-one (suc n))
+
+  pub clock-next : (n : ℕ) → Steady x s n → quanta (suc n) x s .ticking .clock ≡ tickedBy (suc n) (x .ticking .clock) (x .ticking .rate) (rateOf s (rows (quanta (suc n) x s)))
+  unfolding quanta quantum tickedTo
+  clock-next zero st = ticked-once (x .ticking .clock) (x .ticking .rate) (rateOf s (rows (quanta 1 x s)))
+  clock-next (suc n) st =
+      (λ j. ticked (clock-on n st j) (st (suc n) (omega arith) j) (rateOf s (rows (quanta (suc (suc n)) x s))))
+      ∙ ticked-ticked (suc n) (x .ticking .clock) (x .ticking .rate) (rateOf s (rows (quanta (suc (suc n)) x s)))
+      ∙ ap (λ (m : ℕ). tickedBy m (x .ticking .clock) (x .ticking .rate) (rateOf s (rows (quanta (suc (suc n)) x s)))) (add-one (suc n))
+
+-- after n edges the next one is due where the clock has more than n
+edge-due : (c : Clock) (r : Rate) → isLcd r ≡ true → validClock c r ≡ true → (now : Time) (n : ℕ) → leb (raw (movedBy c r (n + 1) .at)) (raw now) ≡ ltb n (edgesTo c r now)
+edge-due c r l v now n =
+    let b = lcd-bounds r l in
+    let f = valid c r v .fraction-lt in
+    same _ _
+    (λ h. lt-ltb n (edgesTo c r now) (omega (arith, counts-edge c r b f now (n + 1) (leb-true _ _ h))))
+    (λ h. le-leb _ _ (edge-counted c r b f now (n + 1) (omega arith) (omega (arith, ltb-true n (edgesTo c r now) h))))
+
+due-now : (k : ScanClock) (r : Rate) → isLcd r ≡ true → validRunning k r ≡ true → (now : Time) → dueAt k r now ≡ ltb 0 (edgesIn k r now)
+unfolding dueAt edgesIn validRunning
+due-now (ScanClock.Running c) r l v now = edge-due c r l v now 0
+due-now ScanClock.Stopped r l v now = refl
+
+due-then : (k : ScanClock) (r : Rate) → isLcd r ≡ true → validRunning k r ≡ true → (now : Time) (n : ℕ) → dueAt (tickedBy n k r r) r now ≡ ltb n (edgesIn k r now)
+unfolding dueAt tickedBy edgesIn validRunning
+due-then (ScanClock.Running c) r l v now n = simp (same-refl r, moved-moved c r n 1) (edge-due c r l v now n)
+due-then ScanClock.Stopped r l v now n = sym (le-ltb n 0 (omega arith))
+
+-- the edges up to now are no more than the fraction units up to now
+edges-few : (k : ScanClock) (r : Rate) → isLcd r ≡ true → validRunning k r ≡ true → (now : Time) → edgesIn k r now ≤ raw now
+unfolding edgesIn validRunning
+edges-few ScanClock.Stopped r l v now = omega arith
+edges-few (ScanClock.Running c) r l v now = go (edgesTo c r now) refl
+  where
+    go : (n : ℕ) → edgesTo c r now ≡ n → n ≤ raw now
+    go zero e = omega arith
+    go (suc n) e =
+        let b = lcd-bounds r l in
+        omega (arith, edges-apart c r b (suc n), edge-counted c r b (valid c r v .fraction-lt) now (suc n) (omega arith) (omega arith))
+
+edges-fit : (k : ScanClock) (r : Rate) → isLcd r ≡ true → (now : Time) → inRange now ≡ true → edgesIn k r now ≤ 2 ^ 50
+unfolding edgesIn
+edges-fit ScanClock.Stopped r l now i = omega arith
+edges-fit (ScanClock.Running c) r l now i = edges-le c r (lcd-bounds r l) now i
+
+-- the quanta that are due
+module _ (x : Scan) (s : Settings) (v : Valid x) (now : Time) where
   abbrev edges : ℕ
-  edges = edgesTo c (x .ticking .rate) now
+  edges = edgesIn (x .ticking .clock) (x .ticking .rate) now
 
-  clock-valid : validRunning (ScanClock.Running c) (x .ticking .rate) ≡ true
-  clock-valid = rw (← running) (v .clock-ok)
+  pub due-at : (n : ℕ) → Steady x s n → due (quanta n x s) now ≡ ltb n edges
+  unfolding due quanta
+  due-at zero st = due-now (x .ticking .clock) (x .ticking .rate) (v .lcd) (v .clock-ok) now
+  due-at (suc n) st =
+      (λ j. dueAt (clock-on x s n st j) (st (suc n) (omega arith) j) now)
+      ∙ due-then (x .ticking .clock) (x .ticking .rate) (v .lcd) (v .clock-ok) now (suc n)
 
-  below : c .fraction < x .ticking .rate .numerator
-  unfolding validRunning
-  below = valid c (x .ticking .rate) clock-valid .fraction-lt
+  starts : Steady x s 0
+  unfolding quanta
+  starts zero h = refl
+  starts (suc m) h = absurd (omega arith)
 
-  at-rate : (n : ℕ) → dueAt (tickedBy n (ScanClock.Running c) (x .ticking .rate) (x .ticking .rate)) (x .ticking .rate) now ≡ leb (raw (movedBy c (x .ticking .rate) (n + 1) .at)) (raw now)
-  unfolding dueAt tickedBy
-  at-rate n = simp (same-refl (x .ticking .rate), moved-moved c (x .ticking .rate) n 1)
+  pub due-is : due x now ≡ ltb 0 edges
+  unfolding quanta
+  due-is = due-at 0 starts
 
-  clock-at : (m : ℕ) → Ok x s m → dueAt (tickingIn x s m .clock) (x .ticking .rate) now ≡ leb (raw (movedBy c (x .ticking .rate) (m + 1) .at)) (raw now)
-  unfolding tickingIn dueAt
-  clock-at zero ok = rw running
-  clock-at (suc m) ok =
-      ap (λ (k : ScanClock). dueAt (tickedBy (suc m) k (x .ticking .rate) (rateAfter x s (endedFrames x (suc m)))) (x .ticking .rate) now) running
-      ∙ ap (λ (r : Rate). dueAt (tickedBy (suc m) (ScanClock.Running c) (x .ticking .rate) r) (x .ticking .rate) now) (rate-stays x s v (suc m) ok)
-      ∙ at-rate (suc m)
-
-  due-at : (m : ℕ) → Ok x s m → due (whole x s m) now ≡ leb (raw (movedBy c (x .ticking .rate) (m + 1) .at)) (raw now)
-  unfolding due whole closed after
-  due-at m ok = ap (λ (r : Rate). dueAt (tickingIn x s m .clock) r now) (rate-stays x s v m ok) ∙ clock-at m ok
-
-  due-yes : (m : ℕ) → Ok x s m → m < edges → due (whole x s m) now ≡ true
-  due-yes m ok h = due-at m ok ∙ le-leb _ _ (edge-counted c (x .ticking .rate) (lcd-bounds (x .ticking .rate) (v .lcd)) below now (m + 1) (omega arith) (omega arith))
-
-  due-no : (m : ℕ) → Ok x s m → edges ≤ m → due (whole x s m) now ≡ false
-  due-no m ok h = due-at m ok ∙ go (leb (raw (movedBy c (x .ticking .rate) (m + 1) .at)) (raw now)) refl
-    where
-      go : (t : Bool) → leb (raw (movedBy c (x .ticking .rate) (m + 1) .at)) (raw now) ≡ t → leb (raw (movedBy c (x .ticking .rate) (m + 1) .at)) (raw now) ≡ false
-      go false e = e
-      go true e = absurd (omega (arith, counts-edge c (x .ticking .rate) (lcd-bounds (x .ticking .rate) (v .lcd)) below now (m + 1) (leb-true _ _ e)))
-
-  -- the first of them
-  starts : Ok x s zero
-  starts = within x s v (raw now + 1) zero (limit-pos x s v (raw now + 1) (omega arith))
-
-  pub due-none : edges ≡ 0 → due x now ≡ false
-  due-none e = rw (none-counted x s v) (due-no zero starts (omega arith))
-
-  pub due-some : (edges ≡ 0 → ⊥) → due x now ≡ true
-  due-some z = rw (none-counted x s v) (due-yes zero starts (omega (arith, z)))
-
-  -- counting with a limit up to which no setting changes: the smaller of the edges and the limit at once
-  count-limit : (limit : ℕ) → ((m : ℕ) → m < limit → Ok x s m) → countFor limit x s now ≡ whole x s (min edges limit)
-  count-limit limit ok = go (leb limit edges) refl
+  -- counting with a limit up to which the rate stays: the smaller of the edges and the limit
+  count-limit : (limit : ℕ) → ((m : ℕ) → m < limit → Steady x s m) → countFor limit x s now ≡ quanta (min edges limit) x s
+  count-limit limit st = go (leb limit edges) refl
     where
       quanta-due : (n : ℕ) → n ≤ edges → n ≤ limit → (m : ℕ) → m < n → due (quanta m x s) now ≡ true
-      quanta-due n e l m h = rw (quanta-whole x s v m (λ k g. ok k (omega arith))) (due-yes m (ok m (omega arith)) (omega arith))
+      quanta-due n e l m h = due-at m (st m (omega arith)) ∙ lt-ltb m edges (omega arith)
 
-      go : (t : Bool) → leb limit edges ≡ t → countFor limit x s now ≡ whole x s (min edges limit)
+      go : (t : Bool) → leb limit edges ≡ t → countFor limit x s now ≡ quanta (min edges limit) x s
       go true h =
           let l = leb-true limit edges h in
-          rw (min-eq-right l)
-          (count-quanta limit limit x s now (omega arith) (quanta-due limit l (omega arith)) (inl refl)
-          ∙ quanta-whole x s v limit ok)
+          rw (min-eq-right l) (count-quanta limit limit x s now (omega arith) (quanta-due limit l (omega arith)) (inl refl))
       go false h =
           let l = leb-false limit edges h in
           rw (min-eq-left {n = edges} {m = limit} (omega arith))
-          (count-quanta edges limit x s now (omega arith) (quanta-due edges (omega arith) (omega arith)) (inr (rw (quanta-whole x s v edges (λ k g. ok k (omega arith))) (due-no edges (ok edges l) (omega arith))))
-          ∙ quanta-whole x s v edges (λ k g. ok k (omega arith)))
+          (count-quanta edges limit x s now (omega arith) (quanta-due edges (omega arith) (omega arith)) (inr (due-at edges (st edges l) ∙ le-ltb edges edges (omega arith))))
 
-  -- the edges up to now are fewer than the fraction units up to now
-  edges-few : edges ≤ raw now
-  edges-few = go edges refl
-    where
-      go : (n : ℕ) → edges ≡ n → n ≤ raw now
-      go zero e = omega arith
-      go (suc n) e =
-          let b = lcd-bounds (x .ticking .rate) (v .lcd) in
-          omega (arith, edges-apart c (x .ticking .rate) b (suc n), edge-counted c (x .ticking .rate) b below now (suc n) (omega arith) (omega arith))
-
-  -- the limit of 64 bits does as well as the rule's
-  limits-agree : edges ≤ 18446744073709551615 → min edges (pieceLimit x s now) ≡ min edges (limitIn x s)
-  unfolding limitWith
-  limits-agree h = go (rateSame x s) (rowSame x s) (frameSame x s)
-    where
-      go : (a b d : Bool) → min edges (cond (not a) 1 (cond (not b) (x .pwm - x .step) (cond (not d) ((rows x - x .row) * x .pwm - x .step) (raw now + 1)))) ≡ min edges (cond (not a) 1 (cond (not b) (x .pwm - x .step) (cond (not d) ((rows x - x .row) * x .pwm - x .step) 18446744073709551615)))
-      go false b d = refl
-      go true false d = refl
-      go true true false = refl
-      go true true true = min-eq-left {n = edges} {m = raw now + 1} (omega (arith, edges-few)) ∙ sym (min-eq-left h)
-
-  -- one piece, as src/count.rt computes it
-  pub piece-whole : edges ≤ 18446744073709551615 → piece x s now ≡ whole x s (min edges (limitIn x s))
-  unfolding piece
-  piece-whole h = count-limit (pieceLimit x s now) (λ m l. within x s v (raw now + 1) m l) ∙ ap (whole x s) (limits-agree h)
+  -- the piece rule keeps to one rate
+  pub steady-in : (all n : ℕ) → n < limitWith x s all → Steady x s n
+  unfolding whole closed after
+  steady-in all n h m l =
+      ap (λ (y : Scan). y .ticking .rate) (quanta-whole x s v m (λ k g. within x s v all k (omega arith)))
+      ∙ rate-stays x s v m (within x s v all m (omega arith))
 
   module _ (i : inRange now ≡ true) where
     pub few : edges ≤ 2 ^ 50
-    few = edges-le c (x .ticking .rate) (lcd-bounds (x .ticking .rate) (v .lcd)) now i
+    few = edges-fit (x .ticking .clock) (x .ticking .rate) (v .lcd) now i
 
-    -- fewer edges than the limit: none is due after the piece
-    within-limit : edges < limitIn x s → due (piece x s now) now ≡ false
-    within-limit h =
-        ap (λ (y : Scan). due y now) (piece-whole (let g = few in omega arith) ∙ ap (whole x s) (min-eq-left {n = edges} {m = limitIn x s} (omega arith)))
-        ∙ due-no edges (within x s v 18446744073709551615 edges h) (omega arith)
+    -- the limit of 64 bits does as well as the rule's
+    limits-agree : min edges (pieceLimit x s now) ≡ min edges (limitIn x s)
+    unfolding limitWith
+    limits-agree = go (rateSame x s) (rowSame x s) (frameSame x s)
+      where
+        go : (a b d : Bool) → min edges (cond (not a) 1 (cond (not b) (x .pwm - x .step) (cond (not d) ((rows x - x .row) * x .pwm - x .step) (raw now + 1)))) ≡ min edges (cond (not a) 1 (cond (not b) (x .pwm - x .step) (cond (not d) ((rows x - x .row) * x .pwm - x .step) 18446744073709551615)))
+        go false b d = refl
+        go true false d = refl
+        go true true false = refl
+        go true true true =
+            min-eq-left {n = edges} {m = raw now + 1} (omega (arith, edges-few (x .ticking .clock) (x .ticking .rate) (v .lcd) (v .clock-ok) now))
+            ∙ sym (min-eq-left {n = edges} {m = 18446744073709551615} (omega (arith, few)))
 
-    -- else the piece went to its limit
-    to-limit : limitIn x s ≤ edges → piece x s now ≡ whole x s (limitIn x s)
-    to-limit h = piece-whole (let g = few in omega arith) ∙ ap (whole x s) (min-eq-right h)
+    -- one piece
+    pub piece-quanta : piece x s now ≡ quanta (min edges (limitIn x s)) x s
+    unfolding piece
+    piece-quanta = count-limit (pieceLimit x s now) (λ m l. steady-in (raw now + 1) m l) ∙ ap (λ (n : ℕ). quanta n x s) limits-agree
 
-    due-first : limitIn x s ≤ edges → due x now ≡ true
-    due-first h =
-        let l = limit-pos x s v 18446744073709551615 (omega arith) in
-        rw (none-counted x s v) (due-yes zero (within x s v 18446744073709551615 zero l) (omega arith))
+    pub piece-whole : piece x s now ≡ whole x s (min edges (limitIn x s))
+    piece-whole = piece-quanta ∙ quanta-whole x s v (min edges (limitIn x s)) (λ k g. within x s v 18446744073709551615 k (omega arith))
 
 -- what n quanta at once leave in force
 module _ (x : Scan) (s : Settings) where
@@ -283,10 +297,6 @@ module _ (x : Scan) (s : Settings) where
       sum = omega arith
 
 -- the limit by cases
-pub limit-one : (x : Scan) (s : Settings) (all : ℕ) → rateSame x s ≡ false → limitWith x s all ≡ 1
-unfolding limitWith
-limit-one x s all a = simp a
-
 module _ (x : Scan) (s : Settings) (all : ℕ) (a : rateSame x s ≡ true) where
   pub limit-row : rowSame x s ≡ false → limitWith x s all ≡ x .pwm - x .step
   unfolding limitWith
@@ -300,52 +310,32 @@ module _ (x : Scan) (s : Settings) (all : ℕ) (a : rateSame x s ≡ true) where
   unfolding limitWith
   limit-all b c = simp (a, b, c)
 
--- a stopped clock has no edge due
-module _ (x : Scan) (s : Settings) (now : Time) (stopped : x .ticking .clock ≡ ScanClock.Stopped) where
-  stopped-due : due x now ≡ false
-  unfolding due dueAt
-  stopped-due = rw stopped
-
-  stopped-piece : piece x s now ≡ x
-  unfolding piece
-  stopped-piece = count-none (pieceLimit x s now) x s now stopped-due
-
-  stopped-ends : endsWithin x s now ≡ true
-  unfolding endsWithin endsAt
-  stopped-ends = rw stopped
-
-  pub stopped-answer : pieceOf x s now ≡ record { counted = false; last = true; scan = x }
-  unfolding pieceOf
-  stopped-answer = λ j. record { counted = stopped-due j; last = stopped-ends j; scan = stopped-piece j }
+-- the edges up to now are fewer than the limit, so one piece counts them all
+unfoldable pub endsWithin : Scan → Settings → Time → Bool
+endsWithin x s now = ltb (edgesIn (x .ticking .clock) (x .ticking .rate) now) (limitIn x s)
 
 -- whether a piece counts all that is due
 module _ (s : Settings) (now : Time) (i : inRange now ≡ true) (x : Scan) (v : Valid x) where
   -- it does with every setting in force
   pub all-ends : rateSame x s ≡ true → rowSame x s ≡ true → frameSame x s ≡ true → endsWithin x s now ≡ true
-  unfolding endsWithin endsAt
-  all-ends a b d = go (x .ticking .clock) refl
-    where
-      go : (k : ScanClock) → x .ticking .clock ≡ k → endsAt k (x .ticking .rate) (limitIn x s) now ≡ true
-      go (ScanClock.Running c) e = rw (limit-all x s 18446744073709551615 a b d) (lt-ltb (edgesTo c (x .ticking .rate) now) 18446744073709551615 (let g = few x s v c e now i in omega arith))
-      go ScanClock.Stopped e = refl
+  unfolding endsWithin
+  all-ends a b d = rw (limit-all x s 18446744073709551615 a b d) (lt-ltb (edges x s v now) 18446744073709551615 (omega (arith, few x s v now i)))
 
   pub none-after : endsWithin x s now ≡ true → due (piece x s now) now ≡ false
-  unfolding endsWithin endsAt
-  none-after h = go (x .ticking .clock) refl h
-    where
-      go : (k : ScanClock) → x .ticking .clock ≡ k → endsAt k (x .ticking .rate) (limitIn x s) now ≡ true → due (piece x s now) now ≡ false
-      go (ScanClock.Running c) e l = within-limit x s v c e now i (ltb-true _ _ l)
-      go ScanClock.Stopped e l = ap (λ (y : Scan). due y now) (stopped-piece x s now e) ∙ stopped-due x s now e
+  unfolding endsWithin
+  none-after h =
+      let l = ltb-true _ _ h in
+      ap (λ (y : Scan). due y now) (piece-quanta x s v now i ∙ ap (λ (n : ℕ). quanta n x s) (min-eq-left {n = edges x s v now} {m = limitIn x s} (omega arith)))
+      ∙ due-at x s v now (edges x s v now) (steady-in x s v now 18446744073709551615 (edges x s v now) l)
+      ∙ le-ltb (edges x s v now) (edges x s v now) (omega arith)
 
   -- where it does not, it went to its limit
   module _ (more : endsWithin x s now ≡ false) where
     pub reached : (piece x s now ≡ whole x s (limitIn x s)) × (due x now ≡ true)
-    unfolding endsWithin endsAt
-    reached = go (x .ticking .clock) refl more
-      where
-        go : (k : ScanClock) → x .ticking .clock ≡ k → endsAt k (x .ticking .rate) (limitIn x s) now ≡ false → (piece x s now ≡ whole x s (limitIn x s)) × (due x now ≡ true)
-        go (ScanClock.Running c) e l = (to-limit x s v c e now i (ltb-false _ _ l), due-first x s v c e now i (ltb-false _ _ l))
-        go ScanClock.Stopped e l = absurd (false≢true (sym l))
+    unfolding endsWithin
+    reached =
+        let l = ltb-false _ _ more in
+        (piece-whole x s v now i ∙ ap (whole x s) (min-eq-right l), due-is x s v now ∙ lt-ltb 0 (edges x s v now) (omega (arith, limit-pos x s v 18446744073709551615 (omega arith))))
 
     pub rate-then : rateSame (piece x s now) s ≡ true
     rate-then = rw (reached .0) (rate-taken x s (limitIn x s) (limit-pos x s v 18446744073709551615 (omega arith)))
@@ -388,112 +378,47 @@ pub pieces-more : (k : ℕ) (x : Scan) (s : Settings) (now : Time) → due x now
 unfolding piecesFor
 pieces-more k x s now d = rw d
 
--- one piece by the clock's answer p to `passed_to` with the limit l
-module _ (x : Scan) (s : Settings) (now : Time) (pre : (inRange now ≡ true) × ((validSettings s ≡ true) × (checkScan x ≡ none))) {c : Clock} (running : x .ticking .clock ≡ ScanClock.Running c) {l : ℕ} (limit : l ≡ limitIn x s) (p : Passed) (answer : answeredPass p ≡ passEdges c (x .ticking .rate) now l) where
-  abbrev i : inRange now ≡ true
-  i = pre .0
-
-  abbrev vs : ValidSettings s
-  vs = valid-settings s (pre .1 .0)
-
-  abbrev v : Valid x
-  v = valid-scan x (pre .1 .1)
-
-  clock-passes : validClock c (x .ticking .rate) ≡ true
+-- what the clock's answer p to `passed_to` with the limit l says of a scan that passes number 4
+module _ (x : Scan) (now : Time) (i : inRange now ≡ true) (ok : validScan x ≡ true) {c : Clock} (running : x .ticking .clock ≡ ScanClock.Running c) (l : ℕ) (p : Passed) (answer : answeredPass p ≡ passEdges c (x .ticking .rate) now l) where
+  running-is : {t : Bool} → validClock c (x .ticking .rate) ≡ t → validRunning (x .ticking .clock) (x .ticking .rate) ≡ t
   unfolding validRunning
-  clock-passes = clock-valid x s v c running now
+  running-is h = rw running h
 
-  passed-is : p ≡ Passed.Edges (min (edgesTo c (x .ticking .rate) now) l) (movedBy c (x .ticking .rate) (min (edgesTo c (x .ticking .rate) now) l))
-  passed-is = pass-passed c (x .ticking .rate) now l p answer i (v .lcd) clock-passes
-
-  pub no-refusal : {e : Refusal} → p ≡ Passed.Refused e → ⊥
-  no-refusal h = let n = passed-is in let z : _≡_ {A = ℕ} 0 1 = cc in omega arith
+  pub asked-refused : {why : Refusal} → p ≡ Passed.Refused why → validRunning (x .ticking .clock) (x .ticking .rate) ≡ false
+  asked-refused {why} h = running-is (pass-refused c (x .ticking .rate) now l why (sym (ap answeredPass h) ∙ answer) i (valid-lcd x ok))
 
   module _ {n : ℕ} {m : Clock} (given : p ≡ Passed.Edges n m) where
-    count-l : n ≡ min (edgesTo c (x .ticking .rate) now) l
-    count-l = let q = passed-is in cc
+    clock-valid : validClock c (x .ticking .rate) ≡ true
+    clock-valid = pass-valid c (x .ticking .rate) now l (sym (ap answeredPass given) ∙ answer) i (valid-lcd x ok)
 
-    count : n ≡ min (edgesTo c (x .ticking .rate) now) (limitIn x s)
-    count = count-l ∙ ap (min (edgesTo c (x .ticking .rate) now)) limit
+    pub asked-running : validRunning (x .ticking .clock) (x .ticking .rate) ≡ true
+    asked-running = running-is clock-valid
 
-    moved : m ≡ movedBy c (x .ticking .rate) n
-    moved = let q = passed-is in let e : m ≡ movedBy c (x .ticking .rate) (min (edgesTo c (x .ticking .rate) now) l) = cc in e ∙ ap (movedBy c (x .ticking .rate)) (sym count-l)
+    pub asked-check : checkScan x ≡ none
+    asked-check = check-by x ok asked-running
 
-    all-few : edgesTo c (x .ticking .rate) now ≤ 2 ^ 50
-    all-few = few x s v c running now i
+    passed-is : p ≡ Passed.Edges (min (edgesTo c (x .ticking .rate) now) l) (movedBy c (x .ticking .rate) (min (edgesTo c (x .ticking .rate) now) l))
+    passed-is = pass-passed c (x .ticking .rate) now l p answer i (valid-lcd x ok) clock-valid
 
-    pub count-small : n ≤ 2 ^ 50
-    count-small = let e = count in let g = all-few in omega arith
+    count : n ≡ min (edgesTo c (x .ticking .rate) now) l
+    count = let q = passed-is in cc
 
-    start-ok : Ok x s zero
-    start-ok = within x s v (raw now + 1) zero (limit-pos x s v (raw now + 1) (omega arith))
+    pub asked-count : n ≡ min (edgesIn (x .ticking .clock) (x .ticking .rate) now) l
+    unfolding edgesIn
+    asked-count = rw running count
 
-    some-limit : 0 < limitIn x s
-    some-limit = limit-pos x s v 18446744073709551615 (omega arith)
+    pub asked-few : n ≤ 2 ^ 50
+    asked-few = omega (arith, count, edges-le c (x .ticking .rate) (lcd-bounds (x .ticking .rate) (valid-lcd x ok)) now i)
 
-    -- the edges are fewer than the limit exactly if those passed are
-    last-piece : endsWithin x s now ≡ ltb n l
-    unfolding endsWithin endsAt
-    last-piece =
-        ap (λ (k : ScanClock). endsAt k (x .ticking .rate) (limitIn x s) now) running
-        ∙ ltb-same (edgesTo c (x .ticking .rate) now) (limitIn x s) n l (λ h. let e = count in omega arith) (λ h. let e = count in omega arith)
+    pub asked-moved : m ≡ movedBy c (x .ticking .rate) n
+    asked-moved =
+        let q = passed-is in
+        let e : m ≡ movedBy c (x .ticking .rate) (min (edgesTo c (x .ticking .rate) now) l) = cc in
+        e ∙ ap (movedBy c (x .ticking .rate)) (sym count)
 
-    module _ (z : n ≡ 0) where
-      none-due : due x now ≡ false
-      none-due = rw (none-counted x s v) (due-no x s v c running now zero start-ok (let e = count in let g = some-limit in omega arith))
-
-      pub none-answer : pieceOf x s now ≡ record { counted = false; last = true; scan = x }
-      unfolding pieceOf piece
-      none-answer = λ j. record {
-        counted = none-due j;
-        last = (last-piece ∙ lt-ltb n l (let g = some-limit in omega arith)) j;
-        scan = count-none (pieceLimit x s now) x s now none-due j;
-      }
-
-    pub new-lcd : isLcd (rateAfter x s (endedFrames x n)) ≡ true
-    unfolding rateAfter
-    new-lcd = go (eqb (endedFrames x n) 0)
-      where
-        go : (t : Bool) → isLcd (rateOf s (rowsIn (cond t (x .frame) (frameOf s)))) ≡ true
-        go true = rate-lcd s vs (x .frame) (v .frame)
-        go false = rate-lcd s vs (frameOf s) (frame-of-fits s vs)
-
-    module _ (z : n ≡ 0 → ⊥) where
-      some-due : due x now ≡ true
-      some-due = rw (none-counted x s v) (due-yes x s v c running now zero start-ok (let e = count in omega (arith, z)))
-
-      -- the last edge passed is in range
-      pub moved-in-range : inRange (m .at) ≡ true
-      moved-in-range =
-          rw moved
-          (earlier-in-range (movedBy c (x .ticking .rate) n .at) now
-          (edge-counted c (x .ticking .rate) (lcd-bounds (x .ticking .rate) (v .lcd)) (below x s v c running now) now n (omega (arith, z)) (let e = count in omega arith)) i)
-
-      -- the clock and rate that src/count.rt joins to the counters
-      abbrev nextTicking : Clock → Rate → Ticking
-      nextTicking d new = record { clock = cond (sameRate (x .ticking .rate) new) (ScanClock.Running d) (ScanClock.Running (started (d .at) new)); rate = new }
-
-      joined : (n : ℕ) → (n ≡ 0 → ⊥) → withTicking (closed x s (x .ticking) false n) (nextTicking (movedBy c (x .ticking .rate) n) (rateAfter x s (endedFrames x n))) ≡ whole x s n
-      unfolding withTicking closed after whole tickingIn latchIn tickedBy
-      joined zero z = absurd (z refl)
-      joined (suc n) z = rw running
-
-      some-piece : withTicking (closed x s (x .ticking) false n) (nextTicking m (rateAfter x s (endedFrames x n))) ≡ piece x s now
-      some-piece =
-          rw moved (joined n z)
-          ∙ ap (whole x s) count
-          ∙ sym (piece-whole x s v c running now (let g = all-few in omega arith))
-
-      -- the answer from the scan `next` with its counters n quanta later, the rate `new` of its rows and its clock `k`
-      pub some-answer : {next : Scan} → next ≡ closed x s (x .ticking) false n → {new : Rate} → new ≡ rateOf s (rows next) → {k : ScanClock} → k ≡ cond (sameRate (x .ticking .rate) new) (ScanClock.Running m) (ScanClock.Running (started (m .at) new)) → {y : Scan} → y ≡ withTicking next (record { clock = k; rate = new }) → pieceOf x s now ≡ record { counted = true; last = ltb n l; scan = y }
-      unfolding pieceOf closed after rateAfter
-      some-answer {next} en {new} er {k} ek {y} ey = λ j. record { counted = some-due j; last = last-piece j; scan = (sym some-piece ∙ sym whole-is) j }
-        where
-          rate-is : new ≡ rateAfter x s (endedFrames x n)
-          rate-is = er ∙ ap (λ (t : Scan). rateOf s (rows t)) en
-
-          clock-is : k ≡ nextTicking m (rateAfter x s (endedFrames x n)) .clock
-          clock-is = ek ∙ ap (λ (r : Rate). nextTicking m r .clock) rate-is
-
-          whole-is : y ≡ withTicking (closed x s (x .ticking) false n) (nextTicking m (rateAfter x s (endedFrames x n)))
-          whole-is = ey ∙ (λ j. withTicking (en j) (record { clock = clock-is j; rate = rate-is j }))
+    -- the last edge passed is in range
+    pub asked-range : (n ≡ 0 → ⊥) → inRange (m .at) ≡ true
+    asked-range z =
+        rw asked-moved
+        (earlier-in-range (movedBy c (x .ticking .rate) n .at) now
+        (edge-counted c (x .ticking .rate) (lcd-bounds (x .ticking .rate) (valid-lcd x ok)) (valid c (x .ticking .rate) clock-valid .fraction-lt) now n (omega (arith, z)) (omega (arith, count))) i)

@@ -5,7 +5,7 @@ use mathlib.Core.Bool.{Bool, true, false, cond}
 use mathlib.Core.Logic.{_⊎_, inl, inr}
 use mathlib.Core.Path.{_≡_, refl, sym, _∙_, ap}
 use native.Mathlib.Omega.{arith}
-use native.Mathlib.Nat.{div-eq-of-lt, mod-eq-of-lt, add-zero}
+use native.Mathlib.Nat.{div-eq-of-lt, mod-eq-of-lt, add-zero, zero-add, suc-add}
 use native.Mathlib.Numerals.{add-one}
 use lib.Dec.{leb, eqb}
 use borrow.Author.Tests.{le-leb, lt-leb, leb-true, leb-false}
@@ -15,7 +15,7 @@ use Rattle.clock.proofs.Rates.{same-refl}
 use Rattle.scan.specs.Closed.{quanta, tickedBy, flipped, flipsIn, countIn, inversionIn, inversionOn, onward, endedRows, endedFrames, after, closed}
 use Rattle.scan.specs.Quantum.{rowEnds, frameEnds, linesEnd, flips, countOn, inversionAfter, frameAfter, ticked, tickedTo, quantum}
 use Rattle.scan.specs.Settings.{pwmOf, frcCountOf, frameOf, rowsIn, rateOf}
-use Rattle.scan.specs.State.{rows}
+use Rattle.scan.specs.State.{rows, withTicking}
 use Rattle.scan.proofs.Checks.{Valid}
 use Rattle.scan.proofs.Numbers.{div-in, mod-in, div-out, mod-out, cond-same, keep, not-zero, count-held, count-next, flips-next, frc-held, frc-next, flips-none}
 use Rattle.scan.specs.declared.settings.Settings.{Settings}
@@ -108,14 +108,37 @@ module _ (x : Scan) (s : Settings) (v : Valid x) (k : Ticking) (b : Bool) (t r e
     inversion = inversion-next (x .inversion) (s .«inversion_lines») e f true i;
   })
 
+-- quanta after quanta
+pub quanta-add : (n m : ℕ) (x : Scan) (s : Settings) → quanta n (quanta m x s) s ≡ quanta (n + m) x s
+unfolding quanta
+quanta-add zero m x s = ap (λ (k : ℕ). quanta k x s) (sym (zero-add m))
+quanta-add (suc n) m x s = ap (λ (y : Scan). quantum y s) (quanta-add n m x s) ∙ ap (λ (k : ℕ). quanta k x s) (sym (suc-add n m))
+
+-- the counters do not depend on clock and rate
+module _ (s : Settings) where
+  pub quantum-counters : (x : Scan) (t u : Ticking) → withTicking (quantum (withTicking x t) s) u ≡ withTicking (quantum x s) u
+  unfolding withTicking quantum frameAfter frameEnds rowEnds
+  quantum-counters x t u = refl
+
+  quanta-counters : (n : ℕ) (x : Scan) (t u : Ticking) → withTicking (quanta n (withTicking x t) s) u ≡ withTicking (quanta n x s) u
+  unfolding quanta withTicking
+  quanta-counters zero x t u = refl
+  quanta-counters (suc n) x t u =
+      sym (quantum-counters (quanta n (withTicking x t) s) u u)
+      ∙ ap (λ (y : Scan). withTicking (quantum y s) u) (quanta-counters n x t u)
+      ∙ quantum-counters (quanta n x s) u u
+
+  pub counters-on : (n m : ℕ) (x : Scan) (t : Ticking) → withTicking (quanta n (withTicking (quanta m x s) t) s) t ≡ withTicking (quanta (n + m) x s) t
+  counters-on n m x t = quanta-counters n (quanta m x s) t t ∙ ap (λ (y : Scan). withTicking y t) (quanta-add n m x s)
+
 -- a clock ticked once is ticked by one
-ticked-once : (k : ScanClock) (r new : Rate) → ticked k r new ≡ tickedBy 1 k r new
+pub ticked-once : (k : ScanClock) (r new : Rate) → ticked k r new ≡ tickedBy 1 k r new
 unfolding ticked tickedBy
 ticked-once (ScanClock.Running c) r new = refl
 ticked-once ScanClock.Stopped r new = refl
 
 -- a clock ticked n times at one rate, and once more
-ticked-ticked : (n : ℕ) (k : ScanClock) (r new : Rate) → ticked (tickedBy n k r r) r new ≡ tickedBy (n + 1) k r new
+pub ticked-ticked : (n : ℕ) (k : ScanClock) (r new : Rate) → ticked (tickedBy n k r r) r new ≡ tickedBy (n + 1) k r new
 unfolding ticked tickedBy
 ticked-ticked n (ScanClock.Running c) r new = simp (same-refl r, moved-moved c r n 1)
 ticked-ticked n ScanClock.Stopped r new = refl
@@ -253,3 +276,8 @@ module _ (x : Scan) (s : Settings) (v : Valid x) where
   unfolding quanta
   quanta-whole zero ok = none-counted
   quanta-whole (suc n) ok = ap (λ (y : Scan). quantum y s) (quanta-whole n (λ m h. ok m (omega arith))) ∙ next n (ok n (omega arith))
+
+  pub counters-closed : (n : ℕ) → 0 < n → ((m : ℕ) → m < n → Ok x s m) → closed x s (x .ticking) false n ≡ withTicking (quanta n x s) (x .ticking)
+  unfolding whole closed after withTicking latchIn
+  counters-closed zero h ok = absurd (omega arith)
+  counters-closed (suc n) h ok = sym (ap (λ (y : Scan). withTicking y (x .ticking)) (quanta-whole (suc n) ok))

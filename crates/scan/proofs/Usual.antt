@@ -6,7 +6,7 @@ use mathlib.Core.List.{List}
 use mathlib.Core.Option.{Option, none}
 use mathlib.Core.Path.{_≡_, refl, sym, _∙_, ap}
 use native.Mathlib.Omega.{arith}
-use native.Mathlib.Nat.{min-eq-left}
+use borrow.Author.Tests.{lt-ltb, le-ltb}
 use Rattle.checks.specs.Checks.{row, unlessRefused}
 use Rattle.checks.proofs.Tests.{both}
 use Rattle.clock.specs.declared.time.Time.{Time}
@@ -15,9 +15,7 @@ use Rattle.clock.specs.declared.edges.Clock.{Clock}
 use Rattle.clock.specs.declared.edges.Passed.{Passed}
 use Rattle.clock.specs.Check.{validClock, checkClock}
 use Rattle.clock.specs.Edges.{answeredPass, movedBy, edgesTo, passEdges}
-use Rattle.clock.specs.Rate.{sameRate}
-use Rattle.clock.specs.Time.{raw, inRange}
-use Rattle.clock.proofs.Answers.{pass-passed, pass-valid, pass-refused}
+use Rattle.clock.specs.Time.{inRange}
 use Rattle.clock.proofs.Rates.{same-refl}
 use Rattle.scan.specs.declared.settings.Settings.{Settings}
 use Rattle.scan.specs.declared.state.Scan.{Scan}
@@ -30,14 +28,14 @@ use Rattle.scan.specs.Count.{due, countTo, piece, rateSame, rowSame, fra
 use Rattle.scan.specs.Latch.{latchedRow, affects, keptLatch, retained}
 use Rattle.scan.specs.State.{rows, withLatch}
 use Rattle.scan.specs.Run.{updated, byteScan}
-use Rattle.scan.specs.Closed.{onward, rowsOn, movedOn, closed, after, inForce, limitIn, tickedBy, staysShown, settled, endedRows, endedFrames}
+use Rattle.scan.specs.Closed.{onward, rowsOn, movedOn, closed, inForce, limitIn, edgesIn, tickedBy, staysShown, settled, endedRows, endedFrames}
 use Rattle.scan.specs.Quick.{told, other, checksPass, oneCount, countedQuick, usual, quickByte}
-use Rattle.scan.proofs.Checks.{Valid, Lent, lent, valid-scan, valid-settings, valid-lcd, check-by}
+use Rattle.scan.proofs.Checks.{Valid, Lent, lent, valid-lcd, valid-scan, valid-settings, check-by}
 use Rattle.scan.proofs.Drives.{counted-passes}
 use Rattle.scan.proofs.Due.{due-stopped, counted-none}
 use Rattle.scan.proofs.Leaves.{lasting, moved-lasts, retained-lasts}
-use Rattle.scan.proofs.Pieces.{few, limit-all, within, all-ends, none-after, piece-whole, piece-counts, due-none, due-some}
-use Rattle.scan.proofs.Quanta.{whole, tickingIn, latchIn, Ok, flat, rate-stays, none-counted}
+use Rattle.scan.proofs.Pieces.{few, limit-all, within, all-ends, none-after, piece-whole, piece-counts, due-is, asked-refused, asked-running, asked-check, asked-count, asked-few, asked-moved}
+use Rattle.scan.proofs.Quanta.{whole, tickingIn, latchIn, Ok, flat, rate-stays}
 use Rattle.scan.proofs.Steady.{settled-same}
 
 -- ---- n quanta with every setting in force
@@ -77,55 +75,42 @@ module _ (x : Scan) (s : Settings) (now : Time) (stopped : x .ticking .clock ≡
 
 -- ---- a running one, by its answer to `passed_to`
 module _ (x : Scan) (s : Settings) (now : Time) (pre : (inRange now ≡ true) × ((validSettings s ≡ true) × (validScan x ≡ true))) {c : Clock} (running : x .ticking .clock ≡ ScanClock.Running c) (p : Passed) (answer : answeredPass p ≡ passEdges c (x .ticking .rate) now 18446744073709551615) where
-  running-is : {t : Bool} → validClock c (x .ticking .rate) ≡ t → validRunning (x .ticking .clock) (x .ticking .rate) ≡ t
-  unfolding validRunning
-  running-is h = rw running h
+  abbrev all : ℕ
+  all = 18446744073709551615
 
   pub quick-refused : {why : Refusal} → p ≡ Passed.Refused why → other x ≡ countedQuick x s now
   unfolding countedQuick oneCount
-  quick-refused {why} h = simp (running-is (pass-refused c (x .ticking .rate) now 18446744073709551615 why (sym (ap answeredPass h) ∙ answer) (pre .0) (valid-lcd x (pre .1 .1))))
+  quick-refused h = simp (asked-refused x now (pre .0) (pre .1 .1) running all p answer h)
 
   module _ {n : ℕ} {m : Clock} (given : p ≡ Passed.Edges n m) where
-    clock-valid : validClock c (x .ticking .rate) ≡ true
-    clock-valid = pass-valid c (x .ticking .rate) now 18446744073709551615 (sym (ap answeredPass given) ∙ answer) (pre .0) (valid-lcd x (pre .1 .1))
+    clock-passes : validRunning (x .ticking .clock) (x .ticking .rate) ≡ true
+    clock-passes = asked-running x now (pre .0) (pre .1 .1) running all p answer given
 
     pub quick-check : checkScan x ≡ none
-    quick-check = check-by x (pre .1 .1) (running-is clock-valid)
+    quick-check = asked-check x now (pre .0) (pre .1 .1) running all p answer given
 
     abbrev v : Valid x
     v = valid-scan x quick-check
 
-    all-few : edgesTo c (x .ticking .rate) now ≤ 2 ^ 50
-    all-few = few x s v c running now (pre .0)
-
-    passed-is : p ≡ Passed.Edges (min (edgesTo c (x .ticking .rate) now) 18446744073709551615) (movedBy c (x .ticking .rate) (min (edgesTo c (x .ticking .rate) now) 18446744073709551615))
-    passed-is = pass-passed c (x .ticking .rate) now 18446744073709551615 p answer (pre .0) (v .lcd) clock-valid
-
-    all-counted : min (edgesTo c (x .ticking .rate) now) 18446744073709551615 ≡ edgesTo c (x .ticking .rate) now
-    all-counted = min-eq-left (omega (arith, all-few))
-
-    count : n ≡ edgesTo c (x .ticking .rate) now
-    count = let q = passed-is in let e : n ≡ min (edgesTo c (x .ticking .rate) now) 18446744073709551615 = cc in e ∙ all-counted
-
-    moved : m ≡ movedBy c (x .ticking .rate) n
-    moved = let q = passed-is in let e : m ≡ movedBy c (x .ticking .rate) (min (edgesTo c (x .ticking .rate) now) 18446744073709551615) = cc in e ∙ ap (movedBy c (x .ticking .rate)) (all-counted ∙ sym count)
+    count : n ≡ edgesIn (x .ticking .clock) (x .ticking .rate) now
+    count = omega (arith, asked-count x now (pre .0) (pre .1 .1) running all p answer given, few x s v now (pre .0))
 
     pub quick-few : n ≤ 2 ^ 50
-    quick-few = omega (arith, count, all-few)
+    quick-few = asked-few x now (pre .0) (pre .1 .1) running all p answer given
 
     pub quick-none : n ≡ 0 → told x ≡ countedQuick x s now
     unfolding countedQuick oneCount
     quick-none z =
-        let d : due x now ≡ false = due-none x s v c running now (sym count ∙ z) in
-        simp (running-is clock-valid, d) (ap told (counted-none x s now d))
+        let d : due x now ≡ false = due-is x s v now ∙ le-ltb 0 (edgesIn (x .ticking .clock) (x .ticking .rate) now) (omega (arith, count)) in
+        simp (clock-passes, d) (ap told (counted-none x s now d))
 
     module _ (z : n ≡ 0 → ⊥) where
       is-due : due x now ≡ true
-      is-due = due-some x s v c running now (λ e. z (count ∙ e))
+      is-due = due-is x s v now ∙ lt-ltb 0 (edgesIn (x .ticking .clock) (x .ticking .rate) now) (omega (arith, count, z))
 
       pub quick-other : inForce x s ≡ false → other x ≡ countedQuick x s now
       unfolding countedQuick oneCount
-      quick-other h = simp (running-is clock-valid, is-due, h)
+      quick-other h = simp (clock-passes, is-due, h)
 
       module _ (h : inForce x s ≡ true) where
         same-rate : rateSame x s ≡ true
@@ -146,17 +131,20 @@ module _ (x : Scan) (s : Settings) (now : Time) (pre : (inRange now ≡ true) ×
             sym (piece-counts s (valid-settings s (pre .1 .0)) now (pre .0) x v)
             ∙ sym (counted-none (piece x s now) s now (none-after s now (pre .0) x v (all-ends s now (pre .0) x v same-rate same-row same-frame)))
 
+        whole-count : min (edgesIn (x .ticking .clock) (x .ticking .rate) now) (limitIn x s) ≡ n
+        whole-count = omega (arith, limit, count, quick-few)
+
         counted : countTo x s now ≡ movedOn x m n
         counted =
             one-piece
-            ∙ piece-whole x s v c running now (omega (arith, all-few))
-            ∙ ap (whole x s) (ap (min (edgesTo c (x .ticking .rate) now)) limit ∙ all-counted ∙ sym count)
+            ∙ piece-whole x s v now (pre .0)
+            ∙ ap (whole x s) whole-count
             ∙ moved-whole x s v running n z (within x s v 18446744073709551615 n (omega (arith, limit, quick-few)))
-            ∙ ap (λ (d : Clock). movedOn x d n) (sym moved)
+            ∙ ap (λ (d : Clock). movedOn x d n) (sym (asked-moved x now (pre .0) (pre .1 .1) running all p answer given))
 
         pub quick-moved : {y : Scan} → y ≡ movedOn x m n → told y ≡ countedQuick x s now
         unfolding countedQuick oneCount
-        quick-moved e = simp (running-is clock-valid, is-due, h) (ap told (e ∙ sym counted))
+        quick-moved e = simp (clock-passes, is-due, h) (ap told (e ∙ sym counted))
 
 -- ---- the byte
 pub shown-stays : (x : Scan) (s : Settings) (page : DataPage) (ram icons : List ℕ) → staysShown x page ≡ true → x ≡ retained x s page ram icons
@@ -275,7 +263,7 @@ module _ (x : Scan) (s : Settings) (now : Time) (pre : (inRange now ≡ true) ×
 
   some-edge : edges ≡ 0 → ⊥
   some-edge e =
-      let none-due = due-none x s (v x s now pre running _ passing refl) c running now (sym (count x s now pre running _ passing refl) ∙ e) in
+      let none-due : due x now ≡ false = due-is x s (v x s now pre running _ passing refl) now ∙ le-ltb 0 (edgesIn (x .ticking .clock) (x .ticking .rate) now) (omega (arith, count x s now pre running _ passing refl, e)) in
       false≢true (sym none-due ∙ is-due)
 
   count-lasts : lasting (countTo x s now) ≡ lasting x

@@ -1,17 +1,20 @@
--- What the contracts of private functions cite: n quanta at once by division and remainder (src/closed.rt), a piece as
--- src/count.rt answers it, the number of a check (src/check.rt), what a byte leaves as it is (src/byte.rt), a row's bits with
+-- What the contracts of private functions cite: n quanta at once by division and remainder (src/closed.rt), a stretch of them
+-- at one rate as src/count.rt counts it, the number of a check and all but the clock's (src/check.rt), what a byte leaves as it is (src/byte.rt), a row's bits with
 -- the activity and the level of what two of them show, and their planes in words (src/planes.rt, src/latch.rt). Nothing here
 -- is a rule; the laws show that it comes to what the rules say.
-use Prim.Native.Nat.{ℕ, zero, suc, _+_, _-_, _*_, _/_, _%_, _<_}
+use Prim.Native.Nat.{ℕ, zero, suc, _+_, _-_, _*_, _/_, _%_, _<_, min}
 use mathlib.Core.Bool.{Bool, true, false, cond, not, _&&_, _||_, Bool·beq}
 use mathlib.Core.List.{List, [], _∷_}
 use mathlib.Core.Option.{Option, none, some}
-use lib.Dec.{ltb, eqb}
+use mathlib.Core.Path.{_≡_}
+use lib.Dec.{eqb}
 use lib.Bits.{bitAnd, bitXor}
 use lib.ListN.{getD}
+use Rattle.checks.specs.Checks.{row, changed}
 use Rattle.clock.specs.declared.time.Time.{Time}
 use Rattle.clock.specs.declared.rate.Rate.{Rate}
 use Rattle.clock.specs.declared.edges.Clock.{Clock}
+use Rattle.clock.specs.Time.{inRange}
 use Rattle.clock.specs.Rate.{sameRate}
 use Rattle.clock.specs.Edges.{started, movedBy, edgesTo}
 use Rattle.scan.specs.declared.settings.Settings.{Settings}
@@ -19,13 +22,14 @@ use Rattle.scan.specs.declared.state.Scan.{Scan}
 use Rattle.scan.specs.declared.state.ScanClock.{ScanClock}
 use Rattle.scan.specs.declared.state.Ticking.{Ticking}
 use Rattle.scan.specs.declared.state.Inversion.{Inversion}
-use Rattle.scan.specs.declared.count.Piece.{Piece}
+use Rattle.scan.specs.declared.count.Run.{Run}
 use Rattle.scan.specs.declared.latch.DataPage.{DataPage}
 use Rattle.scan.specs.declared.run.Running.{Running}
-use Rattle.scan.specs.Settings.{pwmOf, frcCountOf, frameOf}
-use Rattle.scan.specs.State.{rows}
+use Rattle.scan.specs.Settings.{pwmOf, frcCountOf, frameOf, rowsIn, rateOf}
+use Rattle.scan.specs.State.{rows, withTicking}
+use Rattle.scan.specs.Check.{validScan, validRunning, inOrder}
 use Rattle.scan.specs.Quantum.{quantum}
-use Rattle.scan.specs.Count.{due, rowSame, frameSame, rateSame, limitWith, piece}
+use Rattle.scan.specs.Count.{countTo, rowSame, frameSame, rateSame, limitWith, pieces}
 use Rattle.scan.specs.Shade.{columnOf, bitOf, pageOf}
 use Rattle.scan.specs.Latch.{latchedRow, shadeActive, word, words, affects}
 use Rattle.scan.specs.Image.{upTo, levelOf}
@@ -33,6 +37,10 @@ use Rattle.scan.specs.Image.{upTo, levelOf}
 -- the refusal of a scan's check, by its number: 0 where it passes
 abbrev pub refusalOf : ℕ → Option ℕ
 refusalOf n = cond (eqb n 0) none (cond (eqb n 4) (some 4) (some 5))
+
+-- the checks of a call that takes a moment, but for the clock's, number 5
+unfoldable pub checkButClock : Scan → (settingsOk : Bool) → Time → Option ℕ
+checkButClock x settingsOk now = inOrder none none (row 1 (inRange now)) (row 3 settingsOk) (row 4 (validScan x))
 
 -- n quanta, one after another
 unfoldable pub quanta : ℕ → Scan → Settings → Scan
@@ -190,17 +198,41 @@ withCounters x c t r f i = record {
 abbrev pub limitIn : Scan → Settings → ℕ
 limitIn x s = limitWith x s 18446744073709551615
 
--- the edges up to now are fewer than the limit, so one piece counts them all
-unfoldable pub endsAt : ScanClock → Rate → (limit : ℕ) → Time → Bool
-endsAt (ScanClock.Running c) r limit now = ltb (edgesTo c r now) limit
-endsAt ScanClock.Stopped r limit now = true
+-- the edges of a clock up to now
+unfoldable pub edgesIn : ScanClock → Rate → Time → ℕ
+edgesIn (ScanClock.Running c) r now = edgesTo c r now
+edgesIn ScanClock.Stopped r now = 0
 
-unfoldable pub endsWithin : Scan → Settings → Time → Bool
-endsWithin x s now = endsAt (x .ticking .clock) (x .ticking .rate) (limitIn x s) now
+-- the rate is that of the settings with the rows held, and with those that a frame end would take
+unfoldable pub rateStays : Scan → Settings → Bool
+rateStays x s = rateSame x s && sameRate (x .ticking .rate) (rateOf s (rowsIn (frameOf s)))
 
--- one use of the piece rule, as src/count.rt answers it
-unfoldable pub pieceOf : Scan → Settings → Time → Piece
-pieceOf x s now = record { counted = due x now; last = endsWithin x s now; scan = piece x s now }
+-- how many quanta the clock is asked for at once, and how many of them are due
+unfoldable pub stretchLimit : Scan → Settings → ℕ
+stretchLimit x s = cond (rateStays x s) 18446744073709551615 (limitIn x s)
+
+abbrev pub stretch : Scan → Settings → Time → ℕ
+stretch x s now = min (edgesIn (x .ticking .clock) (x .ticking .rate) now) (stretchLimit x s)
+
+-- clock and rate after n quanta whose last edge is that of the clock `moved`: where the rate of the rows then held is another,
+-- a new clock starts there
+abbrev pub tickedOn : Scan → Settings → ℕ → (moved : Clock) → Ticking
+tickedOn x s n moved = record {
+  clock = cond (sameRate (x .ticking .rate) (rateOf s (rows (quanta n x s)))) (ScanClock.Running moved) (ScanClock.Running (started (moved .at) (rateOf s (rows (quanta n x s)))));
+  rate = rateOf s (rows (quanta n x s));
+}
+
+-- n quanta counted, with the clock and rate t, and the uses of the piece rule that took: where the n quanta are a stretch of a
+-- count to some moment, those uses and the ones of the count's rest are the uses of the count
+pub record InPieces (x : Scan) (s : Settings) (n : ℕ) (t : Ticking) (r : Run) : Type 0 where
+  pub counters : r .scan ≡ withTicking (quanta n x s) t
+  pub some-uses : 0 < n → 0 < r .pieces
+  pub uses : (now : Time) → inRange now ≡ true → stretch x s now ≡ n → r .pieces + pieces (quanta n x s) s now ≡ pieces x s now
+
+-- the scan counted to now and the uses of the piece rule, or number 5 and the scan given
+unfoldable pub countClock : Scan → Settings → Time → Option ℕ × (Scan × ℕ)
+countClock x s now =
+    changed (row 5 (validRunning (x .ticking .clock) (x .ticking .rate))) (countTo x s now, pieces x s now) (x, 0)
 
 -- a row's bit of each of its 256 bytes
 unfoldable pub rowBits : (part : List ℕ) → (place : ℕ) → List ℕ

@@ -4,7 +4,7 @@ ghost use mathlib.Core.Path.{_≡_};
 ghost use mathlib.Core.Bool.{true};
 ghost use Rattle.checks.specs.Checks.{row, firstOf};
 ghost use Rattle.scan.specs.Check.{number, refused, linesOk, validSettings, validFrame, frcCountOk, pwmOk, validInversion, validScan, checkScan, memoryOk, imageOk, inOrder, checkMoment, checkLent, checkImage};
-ghost use Rattle.scan.specs.Closed.{refusalOf};
+ghost use Rattle.scan.specs.Closed.{refusalOf, checkButClock};
 use crate::settings::Frame;
 use crate::settings::Settings;
 use crate::settings::rows_in;
@@ -187,6 +187,16 @@ pub(crate) fn check_moment(scan: Scan, settings_ok: bool, now: Time) -> Check
         settings,
         check_of(scan.refusal()),
     )
+}
+
+// The same without number 5, for a call that asks the clock itself.
+pub(crate) fn check_but_clock(scan: Scan, settings_ok: bool, now: Time) -> Check
+    ensures { λ r. ⌜ refused r ≡ checkButClock scan «settings_ok» now ⌝ }
+{
+    let time = unless(now.in_range(), Refusal::Time);
+    let settings = unless(settings_ok, Refusal::Settings);
+    let counters = unless(scan.valid(), Refusal::Scan);
+    in_order(Check::Passed, Check::Passed, time, settings, counters)
 }
 
 // The checks of a call that takes a moment and lent memory.

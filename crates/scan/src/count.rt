@@ -1,19 +1,20 @@
 // Counting the scan to a moment, by the piece rule. Document 01, 'Scan'.
 ghost use mathlib.Core.Path.{_≡_};
-ghost use mathlib.Core.Bool.{true, false, cond};
+ghost use mathlib.Core.Bool.{true, cond};
 ghost use mathlib.Core.Option.{none};
-ghost use Prim.Native.Nat.{_+_, _-_, _*_, _^_, _≤_, _<_};
+ghost use Prim.Native.Nat.{_+_, _-_, _*_, _^_, _≤_, _<_, min};
 ghost use lib.Dec.{leb};
 ghost use Rattle.clock.specs.Time.{raw, inRange};
 ghost use Rattle.clock.specs.Rate.{sameRate, isLcd};
 ghost use Rattle.clock.specs.Edges.{started, movedBy};
 ghost use Rattle.clock.specs.Check.{validClock};
 ghost use Rattle.scan.specs.State.{rows};
-ghost use Rattle.scan.specs.Check.{validSettings, checkScan};
-ghost use Rattle.scan.specs.Count.{rowSame, sameFrame, frameSame, rateSame, due, countTo, pieces, answeredCount, countScan};
-ghost use Rattle.scan.specs.Closed.{limitIn, pieceOf};
+ghost use Rattle.scan.specs.Check.{validSettings, validScan, checkScan};
+ghost use Rattle.scan.specs.Count.{rowSame, sameFrame, frameSame, rateSame, due, countTo, answeredCount, countScan};
+ghost use Rattle.scan.specs.Closed.{limitIn, rateStays, stretchLimit, tickedOn, InPieces, countClock};
 use crate::check::Check;
-use crate::check::check_moment;
+use crate::check::Refusal;
+use crate::check::check_but_clock;
 use crate::closed::advanced;
 use crate::closed::wide;
 use crate::settings::Frame;
@@ -40,12 +41,10 @@ pub struct Counted {
     pub pieces: u8,
 }
 
-// What one use of the piece rule did: whether an edge was due, whether it counted all edges that are
-// due, and the scan after it.
-struct Piece {
-    counted: bool,
-    last: bool,
+// Quanta counted, and the uses of the piece rule that took.
+struct Run {
     scan: Scan,
+    pieces: u64,
 }
 
 pub(crate) fn row_same(scan: Scan, settings: Settings) -> bool
@@ -84,7 +83,7 @@ pub(crate) fn rate_same(scan: Scan, settings: Settings) -> bool
 
 // Quanta up to the end of the row.
 fn row_remaining(scan: Scan) -> u64
-    requires { ⌜ checkScan scan ≡ none ⌝ }
+    requires { ⌜ validScan scan ≡ true ⌝ }
     ensures { λ r. ⌜ r ≡ scan .pwm - scan .step ⌝ }
 {
     wide(scan.pwm - scan.step)
@@ -92,7 +91,7 @@ fn row_remaining(scan: Scan) -> u64
 
 // Quanta up to the end of the frame.
 fn frame_remaining(scan: Scan) -> u64
-    requires { ⌜ checkScan scan ≡ none ⌝ }
+    requires { ⌜ validScan scan ≡ true ⌝ }
     ensures { λ r. ⌜ r ≡ (rows scan - scan .row) * scan .pwm - scan .step ⌝ }
 {
     let frame = scan.frame;
@@ -102,7 +101,7 @@ fn frame_remaining(scan: Scan) -> u64
 
 // How many quanta the piece rule takes at once.
 fn limit_in(scan: Scan, settings: Settings) -> u64
-    requires { ⌜ checkScan scan ≡ none ⌝ }
+    requires { ⌜ validScan scan ≡ true ⌝ }
     ensures { λ r. ⌜ r ≡ limitIn scan settings ⌝ }
 {
     if !rate_same(scan, settings) {
@@ -117,7 +116,57 @@ fn limit_in(scan: Scan, settings: Settings) -> u64
     u64::MAX
 }
 
-// The clock after a piece: the one moved, or a new one at its last edge where the rate is another.
+// Whether the rate is that of the settings with the rows held, and with those that a frame end
+// would take.
+fn rate_stays(scan: Scan, settings: Settings) -> bool
+    ensures { λ r. ⌜ r ≡ rateStays scan settings ⌝ }
+{
+    let ticking = scan.ticking;
+    let rate = ticking.rate;
+    rate_same(scan, settings) & rate.eq(rate_of(settings, frame_of(settings)))
+}
+
+// How many quanta the clock may be asked for at once: all where no row or frame end changes the
+// rate, else those of one use of the piece rule, of which only the last can change it.
+fn stretch_limit(scan: Scan, settings: Settings) -> u64
+    requires { ⌜ validScan scan ≡ true ⌝ }
+    ensures { λ r. ⌜ r ≡ stretchLimit scan settings ⌝ }
+{
+    if rate_stays(scan, settings) {
+        return u64::MAX;
+    }
+    limit_in(scan, settings)
+}
+
+fn smaller(a: u64, b: u64) -> u64
+    ensures { λ r. ⌜ r ≡ min a b ⌝ }
+{
+    if a <= b { a } else { b }
+}
+
+// The counters so many quanta later, by the piece rule; clock and rate stay.
+fn by_pieces(scan: Scan, settings: Settings, quanta: u64) -> Run
+    requires { ⌜ checkScan scan ≡ none ⌝ }
+    requires { ⌜ validSettings settings ≡ true ⌝ }
+    requires { ⌜ quanta ≤ 2 ^ 50 ⌝ }
+    ensures { λ r. ⌜ InPieces scan settings quanta (scan .ticking) r ⌝ }
+{
+    let mut from = scan;
+    let mut left = quanta;
+    let mut uses: u64 = 0;
+    while left != 0 {
+        let count = smaller(left, limit_in(from, settings));
+        from = advanced(from, settings, count);
+        left -= count;
+        uses += 1;
+    }
+    Run {
+        scan: from,
+        pieces: uses,
+    }
+}
+
+// The clock after a stretch: the one moved, or a new one at its last edge where the rate is another.
 fn next_clock(moved: Clock, rate: Rate, new: Rate) -> ScanClock
     requires { ⌜ inRange (moved .at) ≡ true ⌝ }
     requires { ⌜ isLcd new ≡ true ⌝ }
@@ -130,69 +179,23 @@ fn next_clock(moved: Clock, rate: Rate, new: Rate) -> ScanClock
     start_clock(at, new)
 }
 
-// A scan with no edge due.
-fn none_due(scan: Scan) -> Piece
-    ensures { λ r. ⌜ r ≡ record { counted = false; last = true; scan = scan } ⌝ }
-{
-    Piece {
-        counted: false,
-        last: true,
-        scan: scan,
-    }
-}
-
-// One use of the piece rule.
-fn piece_of(scan: Scan, settings: Settings, now: Time) -> Piece
-    requires { ⌜ inRange now ≡ true ⌝ }
-    requires { ⌜ validSettings settings ≡ true ⌝ }
+// So many quanta counted, of which only the last can change the rate; `moved` is the clock at the last
+// of their edges.
+fn stretch(scan: Scan, settings: Settings, quanta: u64, moved: Clock) -> Run
     requires { ⌜ checkScan scan ≡ none ⌝ }
-    ensures { λ r. ⌜ r ≡ pieceOf scan settings now ⌝ }
+    requires { ⌜ validSettings settings ≡ true ⌝ }
+    requires { ⌜ quanta ≤ 2 ^ 50 ⌝ }
+    requires { ⌜ inRange (moved .at) ≡ true ⌝ }
+    ensures { λ r. ⌜ InPieces scan settings quanta (tickedOn scan settings quanta moved) r ⌝ }
 {
+    let run = by_pieces(scan, settings, quanta);
+    let next = run.scan;
     let ticking = scan.ticking;
-    let clock = ticking.clock;
-    let ScanClock::Running(running) = clock else {
-        return none_due(scan);
-    };
-    let rate = ticking.rate;
-    let limit = limit_in(scan, settings);
-    let passed = running.passed_to(rate, now, limit);
-    let Passed::Edges {
-        count,
-        clock: moved,
-    } = passed
-    else {
-        return none_due(scan);
-    };
-    if count == 0 {
-        return none_due(scan);
-    }
-    let next = advanced(scan, settings, count);
     let frame = next.frame;
     let new = rate_of(settings, frame);
-    Piece {
-        counted: true,
-        last: count < limit,
-        scan: with_ticking(next, next_clock(moved, rate, new), new),
-    }
-}
-
-// The last piece, after as many before it.
-fn done(last: Piece, before: u8) -> Counted
-    requires { ⌜ before ≤ 3 ⌝ }
-    ensures { λ r. ⌜ r ≡ record { check = Check.Passed; scan = last .scan; pieces = before + cond (last .counted) 1 0 } ⌝ }
-{
-    let scan = last.scan;
-    if last.counted {
-        return Counted {
-            check: Check::Passed,
-            scan: scan,
-            pieces: before + 1,
-        };
-    }
-    Counted {
-        check: Check::Passed,
-        scan: scan,
-        pieces: before,
+    Run {
+        scan: with_ticking(next, next_clock(moved, ticking.rate, new), new),
+        pieces: run.pieces,
     }
 }
 
@@ -295,23 +298,75 @@ fn rebuilt(scan: Scan) -> Scan
     }
 }
 
-// The scan counted by at most four uses of the piece rule.
-pub(crate) fn in_pieces(scan: Scan, settings: Settings, now: Time) -> Counted
+// The answer of a count that passes.
+fn counted_as(scan: Scan, pieces: u64) -> Counted
+    requires { ⌜ pieces < 256 ⌝ }
+    ensures { λ r. ⌜ r ≡ record { check = Check.Passed; scan = scan; pieces = pieces } ⌝ }
+{
+    Counted {
+        check: Check::Passed,
+        scan: scan,
+        pieces: pieces as u8,
+    }
+}
+
+// The scan counted by stretches of one rate: one question to the clock for each, and the first of
+// them is its check. This has one caller, so that the compiler makes one function of both and copies
+// no scan between them.
+fn in_pieces(scan: Scan, settings: Settings, now: Time) -> Counted
     requires { ⌜ inRange now ≡ true ⌝ }
     requires { ⌜ validSettings settings ≡ true ⌝ }
-    requires { ⌜ checkScan scan ≡ none ⌝ }
-    ensures { λ r. ⌜ r ≡ record { check = Check.Passed; scan = countTo scan settings now; pieces = pieces scan settings now } ⌝ }
+    requires { ⌜ validScan scan ≡ true ⌝ }
+    ensures { λ r. ⌜ answeredCount r ≡ countClock scan settings now ⌝ }
 {
     let mut from = rebuilt(scan);
-    let mut before: u8 = 0;
+    let mut before: u64 = 0;
     loop {
-        let piece = piece_of(from, settings, now);
-        if piece.last | (before == 3) {
-            return done(piece, before);
+        let ticking = from.ticking;
+        let clock = ticking.clock;
+        let ScanClock::Running(running) = clock else {
+            return counted_as(from, before);
+        };
+        let limit = stretch_limit(from, settings);
+        let passed = running.passed_to(ticking.rate, now, limit);
+        let Passed::Edges {
+            count,
+            clock: moved,
+        } = passed
+        else {
+            return Counted {
+                check: Check::Refused(Refusal::Clock),
+                scan: from,
+                pieces: 0,
+            };
+        };
+        if count == 0 {
+            return counted_as(from, before);
         }
-        let next = piece.scan;
-        from = rebuilt(next);
-        before += 1;
+        let run = stretch(from, settings, count, moved);
+        from = run.scan;
+        before += run.pieces;
+        if count < limit {
+            return counted_as(from, before);
+        }
+    }
+}
+
+impl Scan {
+    // The scan counted to now, and the pieces that took. The clock's check is the last in the table's
+    // order, and the first question to it makes that.
+    pub fn count_to(self, settings: Settings, now: Time) -> Counted
+        ensures { λ r. ⌜ answeredCount r ≡ countScan self settings now ⌝ }
+    {
+        let check = check_but_clock(self, settings.valid(), now);
+        let Check::Passed = check else {
+            return Counted {
+                check: check,
+                scan: self,
+                pieces: 0,
+            };
+        };
+        in_pieces(self, settings, now)
     }
 }
 
@@ -325,23 +380,6 @@ pub(crate) fn latest(scan: Scan, settings: Settings, now: Time) -> Scan
     if !is_due(scan, now) {
         return scan;
     }
-    let counted = in_pieces(scan, settings, now);
+    let counted = scan.count_to(settings, now);
     counted.scan
-}
-
-impl Scan {
-    // The scan counted to now, and the pieces that took.
-    pub fn count_to(self, settings: Settings, now: Time) -> Counted
-        ensures { λ r. ⌜ answeredCount r ≡ countScan self settings now ⌝ }
-    {
-        let check = check_moment(self, settings.valid(), now);
-        let Check::Passed = check else {
-            return Counted {
-                check: check,
-                scan: self,
-                pieces: 0,
-            };
-        };
-        in_pieces(self, settings, now)
-    }
 }

@@ -11,7 +11,7 @@ use crate::check::Changed;
 use crate::check::Check;
 use crate::check::check_lent;
 use crate::check::check_moment;
-use crate::count::in_pieces;
+use crate::count::latest;
 use crate::latch::DataPage;
 use crate::latch::present_latch;
 use crate::latch::retained;
@@ -194,9 +194,8 @@ impl Scan {
                 scan: self,
             };
         };
-        let counted = in_pieces(self, settings, moment);
-        let latest = counted.scan;
-        let scan = retained(latest, settings, page, ram, icons);
+        let counted = latest(self, settings, moment);
+        let scan = retained(counted, settings, page, ram, icons);
         Changed {
             check: Check::Passed,
             scan: scan,
@@ -228,22 +227,23 @@ impl Scan {
         }
     }
 
-    // The scan after a fall of the supply: counted to its moment, and its clock dropped.
+    // The scan after a fall of the supply: counted to its moment, and its clock dropped. The checks
+    // are those of the count.
     pub fn fall(self, settings: Settings, now: Time) -> Changed
         ensures { λ r. ⌜ answered r ≡ fallScan self settings now ⌝ }
     {
-        let check = check_moment(self, settings.valid(), now);
+        let counted = self.count_to(settings, now);
+        let check = counted.check;
+        let scan = counted.scan;
         let Check::Passed = check else {
             return Changed {
                 check: check,
-                scan: self,
+                scan: scan,
             };
         };
-        let counted = in_pieces(self, settings, now);
-        let latest = counted.scan;
         Changed {
             check: Check::Passed,
-            scan: stopped(latest),
+            scan: stopped(scan),
         }
     }
 

@@ -1,8 +1,9 @@
 -- `scan::count::frame_remaining` meets its contract.
 use Prim.Native.Nat.{_-_}
 use native.Mathlib.Omega.{arith}
-use Rattle.scan.specs.State.{rows}
-use Rattle.scan.proofs.Checks.{valid-scan}
+use Rattle.scan.specs.Run.{stopped}
+use Rattle.scan.specs.State.{rows, withTicking}
+use Rattle.scan.proofs.Checks.{counters-in-range}
 use Rattle.scan.proofs.Kept.{rows-high, pwm-small}
 use Rattle.scan.proofs.Numbers.{row-left, product-fits}
 use borrow.Author.Needs.{needs}
@@ -10,25 +11,28 @@ use Rattle.scan.proofs.count.frame_remaining.Statement.{statement}
 use Rattle.scan.proofs.count.frame_remaining.Tie as tie
 
 sub-result : tie.Need-sub-result
+unfolding stopped withTicking
 sub-result c =
     let start = c .before .before .before in
-    simp (c .before .rows-in .ensures, c .wide .ensures) (omega (arith, valid-scan (start .args .scan) (start .pre) .row-below))
+    simp (c .before .rows-in .ensures, c .wide .ensures) (omega (arith, counters-in-range (start .args .scan) (start .pre) .row-below))
 
 mul-result : tie.Need-mul-result
+unfolding stopped withTicking
 mul-result c =
     let at-rows-in = c .before .before in
     let start = at-rows-in .before .before in
     let x = start .args .scan in
-    let v = valid-scan x (start .pre) in
+    let v = counters-in-range x (start .pre) in
     simp (at-rows-in .rows-in .ensures, c .before .wide .ensures, c .wide2 .ensures) (record { fits = product-fits (rows x - x .row) (x .pwm) (omega (arith, rows-high (x .frame), v .frame .duty-high)) (omega (arith, pwm-small (x .pwm) (v .pwm-ok))) })
 
 sub-result-2 : tie.Need-sub-result-2
+unfolding stopped withTicking
 sub-result-2 c =
     let at-wide = c .before .before in
     let at-rows-in = at-wide .before in
     let start = at-rows-in .before .before in
     let x = start .args .scan in
-    let v = valid-scan x (start .pre) in
+    let v = counters-in-range x (start .pre) in
     simp (at-rows-in .rows-in .ensures, at-wide .wide .ensures, c .before .wide2 .ensures, c .wide3 .ensures) (omega (arith, v .step-below, row-left (rows x) (x .row) (x .pwm) (v .row-below)))
 
 returns : tie.Need-returns

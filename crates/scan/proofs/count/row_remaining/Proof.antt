@@ -1,12 +1,15 @@
 -- `scan::count::row_remaining` meets its contract.
 use native.Mathlib.Omega.{arith}
-use Rattle.scan.proofs.Checks.{valid-scan}
+use Rattle.scan.specs.Run.{stopped}
+use Rattle.scan.specs.State.{withTicking}
+use Rattle.scan.proofs.Checks.{counters-in-range}
 use borrow.Author.Needs.{needs}
 use Rattle.scan.proofs.count.row_remaining.Statement.{statement}
 use Rattle.scan.proofs.count.row_remaining.Tie as tie
 
 sub-wide : tie.Need-sub-wide
-sub-wide c = omega (arith, valid-scan (c .before .args .scan) (c .before .pre) .step-below)
+unfolding stopped withTicking
+sub-wide c = omega (arith, counters-in-range (c .before .args .scan) (c .before .pre) .step-below)
 
 pub row-remaining-spec : {M : Type 1} → statement M
 row-remaining-spec = tie.close (tie.spec sub-wide (λ c κs. search needs) (λ c. search needs))

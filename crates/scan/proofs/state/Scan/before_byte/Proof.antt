@@ -14,8 +14,8 @@ returns c =
     let at-valid = at-check-lent .before in
     refused-answer (simp (at-valid .valid .ensures) at (at-check-lent .check-lent .ensures)) _ _ (c .enum-told2 .given .1)
 
-in-pieces-requires : tie.Need-in-pieces-requires
-in-pieces-requires c κs =
+latest-requires : tie.Need-latest-requires
+latest-requires c κs =
     let at-check-lent = c .before .before in
     let at-valid = at-check-lent .before in
     let k = called _ _ _ _ _ (passes (simp (at-valid .valid .ensures) at (at-check-lent .check-lent .ensures)) (c .enum-told .given .1)) in
@@ -23,20 +23,20 @@ in-pieces-requires c κs =
 
 retained-requires : tie.Need-retained-requires
 retained-requires c κs =
-    let at-enum-told = c .before .before in
+    let at-enum-told = c .before in
     let at-check-lent = at-enum-told .before .before in
     let at-valid = at-check-lent .before in
     let k = called _ _ _ _ _ (passes (simp (at-valid .valid .ensures) at (at-check-lent .check-lent .ensures)) (at-enum-told .enum-told .given .1)) in
-    (simp (c .before .in-pieces .ensures) (phase-lt _ (counted-passes _ _ _ (k .in-range) (k .settings-ok) (k .scan-passed))), (k .memory .ram-length, k .memory .icons-length))
+    (simp (c .latest .ensures) (phase-lt _ (counted-passes _ _ _ (k .in-range) (k .settings-ok) (k .scan-passed))), (k .memory .ram-length, k .memory .icons-length))
 
 returns-2 : tie.Need-returns-2
 unfolding beforeByte
 returns-2 c =
-    let at-in-pieces = c .before .before in
-    let at-enum-told = at-in-pieces .before in
+    let at-latest = c .before in
+    let at-enum-told = at-latest .before in
     let at-check-lent = at-enum-told .before .before in
     let at-valid = at-check-lent .before in
-    simp (c .retained .ensures, at-in-pieces .in-pieces .ensures) (passed-answer (simp (at-valid .valid .ensures) at (at-check-lent .check-lent .ensures)) _ _ (at-enum-told .enum-told .given .1))
+    simp (c .retained .ensures, at-latest .latest .ensures) (passed-answer (simp (at-valid .valid .ensures) at (at-check-lent .check-lent .ensures)) _ _ (at-enum-told .enum-told .given .1))
 
 pub before-byte-spec : {M : Type 1} → statement M
 before-byte-spec =
@@ -47,6 +47,6 @@ before-byte-spec =
     (λ c. search needs)
     (λ c. search needs)
     returns
-    in-pieces-requires
+    latest-requires
     retained-requires
     returns-2)

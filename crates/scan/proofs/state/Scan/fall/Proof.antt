@@ -1,42 +1,19 @@
 -- `scan::state::Scan::fall` meets its contract.
-use Rattle.scan.specs.Run.{fallScan}
-use Rattle.scan.proofs.Checks.{timed, passes, passed-answer, refused-answer}
+use Rattle.scan.proofs.Answers.{fall-refused, fall-stopped}
 use borrow.Author.Needs.{needs}
 use Rattle.scan.proofs.state.Scan.fall.Statement.{statement}
 use Rattle.scan.proofs.state.Scan.fall.Tie as tie
 
 returns : tie.Need-returns
-unfolding fallScan
 returns c =
-    let at-check-moment = c .before .before in
-    let at-valid = at-check-moment .before in
-    refused-answer (simp (at-valid .valid .ensures) at (at-check-moment .check-moment .ensures)) _ _ (c .enum-told2 .given .1)
-
-in-pieces-requires : tie.Need-in-pieces-requires
-in-pieces-requires c κs =
-    let at-check-moment = c .before .before in
-    let at-valid = at-check-moment .before in
-    let k = timed _ _ _ (passes (simp (at-valid .valid .ensures) at (at-check-moment .check-moment .ensures)) (c .enum-told .given .1)) in
-    (k .in-range, (k .settings-ok, k .scan-passed))
+    let at-count-to = c .before .before .before in
+    fall-refused _ _ _ (at-count-to .count-to .result) (at-count-to .count-to .ensures) (c .enum-told2 .given .1)
 
 returns-2 : tie.Need-returns-2
-unfolding fallScan
 returns-2 c =
-    let at-in-pieces = c .before .before in
-    let at-enum-told = at-in-pieces .before in
-    let at-check-moment = at-enum-told .before .before in
-    let at-valid = at-check-moment .before in
-    simp (c .stopped .ensures, at-in-pieces .in-pieces .ensures) (passed-answer (simp (at-valid .valid .ensures) at (at-check-moment .check-moment .ensures)) _ _ (at-enum-told .enum-told .given .1))
+    let at-count-to = c .before .before .before .before in
+    fall-stopped _ _ _ (at-count-to .count-to .result) (at-count-to .count-to .ensures) (c .before .enum-told .given .1) (c .stopped .ensures)
 
 pub fall-spec : {M : Type 1} → statement M
 fall-spec =
-    tie.close
-    (tie.spec
-    (λ c κs. search needs)
-    (λ c κs. search needs)
-    (λ c. search needs)
-    (λ c. search needs)
-    returns
-    in-pieces-requires
-    (λ c κs. search needs)
-    returns-2)
+    tie.close (tie.spec (λ c κs. search needs) (λ c. search needs) (λ c. search needs) returns (λ c κs. search needs) returns-2)
