@@ -173,7 +173,7 @@ module _ (x : Scan) (s : Settings) (n : ℕ) (pre : (checkScan x ≡ none) × ((
   abbrev vs : ValidSettings s
   vs = valid-settings s (pre .1 .0)
 
-  pub counted-valid : (m : ℕ) → Valid (withTicking (quanta m x s) (x .ticking))
+  counted-valid : (m : ℕ) → Valid (withTicking (quanta m x s) (x .ticking))
   unfolding quanta withTicking
   counted-valid zero = v
   counted-valid (suc m) =
@@ -215,7 +215,7 @@ module _ (x : Scan) (s : Settings) (n : ℕ) (pre : (checkScan x ≡ none) × ((
       pub taken-some : 0 < q
       taken-some = omega (arith, more, count, limit-pos from s from-valid 18446744073709551615 (omega arith))
 
-      pub taken-few : q ≤ left
+      taken-few : q ≤ left
       taken-few = omega (arith, count)
 
       next-from : {y : Scan} → y ≡ closed from s (from .ticking) false q → y ≡ withTicking (quanta (q + a .done) x s) (x .ticking)
