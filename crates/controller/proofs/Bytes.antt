@@ -142,7 +142,7 @@ byte-valid x b now ram icons l h =
 
 -- ---- line and supply
 -- what a byte never changes: the line but for the awaited command, and the power but for its flags
-pub record LineKept (x y : Nt7508) : Type 0 where
+pub record LineLeaves (x y : Nt7508) : Type 0 where
   pub selected : y .serial .selected ≡ x .serial .selected
   pub «data» : y .serial .«data» ≡ x .serial .«data»
   pub shift : y .serial .shift ≡ x .serial .shift
@@ -153,23 +153,23 @@ pub record LineKept (x y : Nt7508) : Type 0 where
   pub supply : y .power .«supply_millivolts» ≡ x .power .«supply_millivolts»
   pub temperature : y .power .«temperature_millicelsius» ≡ x .power .«temperature_millicelsius»
 
-command-line : (x : Nt7508) (p : Pending) (b : ℕ) (now : Time) → LineKept x (commandStep x p b now .state)
+command-line : (x : Nt7508) (p : Pending) (b : ℕ) (now : Time) → LineLeaves x (commandStep x p b now .state)
 unfolding commandStep parameterTaken acted powerAfter withSerial
 command-line x (Pending.Command c) b now = record { selected = refl; «data» = refl; shift = refl; bits = refl; supplied = refl; ready = refl; cold = refl; supply = refl; temperature = refl }
-command-line x Pending.None b now = picked (λ (s : Stepped). LineKept x (s .state)) (awaits b)
+command-line x Pending.None b now = picked (λ (s : Stepped). LineLeaves x (s .state)) (awaits b)
     (record { selected = refl; «data» = refl; shift = refl; bits = refl; supplied = refl; ready = refl; cold = refl; supply = refl; temperature = refl })
     (record { selected = refl; «data» = refl; shift = refl; bits = refl; supplied = refl; ready = refl; cold = refl; supply = refl; temperature = refl })
 
 -- a byte's action
-pub step-kept : (x : Nt7508) (b : ℕ) (now : Time) → LineKept x (stepOf x b now .state)
+pub step-leaves : (x : Nt7508) (b : ℕ) (now : Time) → LineLeaves x (stepOf x b now .state)
 unfolding stepOf dataStep withAddress
-step-kept x b now = picked (λ (s : Stepped). LineKept x (s .state)) (x .serial .«data»)
+step-leaves x b now = picked (λ (s : Stepped). LineLeaves x (s .state)) (x .serial .«data»)
     (record { selected = refl; «data» = refl; shift = refl; bits = refl; supplied = refl; ready = refl; cold = refl; supply = refl; temperature = refl })
     (command-line x (x .serial .pending) b now)
 
-pub byte-serial : (x : Nt7508) (b : ℕ) (now : Time) (ram icons : List ℕ) → LineKept x (byteTaken x b now ram icons .state)
+pub byte-serial : (x : Nt7508) (b : ℕ) (now : Time) (ram icons : List ℕ) → LineLeaves x (byteTaken x b now ram icons .state)
 unfolding byteTaken settledBy found withScan
-byte-serial x b now ram icons = let k = step-kept (found x now ram icons) b now in record {
+byte-serial x b now ram icons = let k = step-leaves (found x now ram icons) b now in record {
   selected = k .selected;
   «data» = k .«data»;
   shift = k .shift;

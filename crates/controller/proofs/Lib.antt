@@ -6,6 +6,6 @@ pub mod Bytes
 pub mod Parts
 pub mod Groups
 mod Whole
-pub mod Usual
+pub mod FastPath
 pub mod Supplies
 pub mod Figures

@@ -1,5 +1,5 @@
 -- A byte part by part: what it does to the registers, gives and is to store has no part of the scan in it, and the scan after
--- it is counted, its latch kept, and updated by the registers then.
+-- it is counted, its latch retained, and updated by the registers then.
 use Prim.Native.Nat.{ℕ, _+_, _*_, _%_}
 use mathlib.Core.Bool.{Bool, true, false, cond, not, _&&_, false≢true}
 use mathlib.Core.List.{List}

@@ -29,9 +29,9 @@ pub in-run : (low high n : ℕ) → between low high n ≡ true → (low ≤ n) 
 in-run low high n h = let p = both _ _ h in (leb-true low n (p .0), leb-true n high (p .1))
 
 -- a register that a test sets or leaves
-kept : {A : Type 0} (ok : A → Bool) (t : Bool) (new old : A) → (t ≡ true → ok new ≡ true) → ok old ≡ true → ok (cond t new old) ≡ true
-kept ok true new old n o = n refl
-kept ok false new old n o = o
+stays : {A : Type 0} (ok : A → Bool) (t : Bool) (new old : A) → (t ≡ true → ok new ≡ true) → ok old ≡ true → ok (cond t new old) ≡ true
+stays ok true new old n o = n refl
+stays ok false new old n o = o
 
 -- two tests that each hold after as before
 infixl 30 _and_
@@ -42,8 +42,8 @@ same : {a : Bool} → a ≡ true → a ≡ true
 same h = h
 
 -- a register of the low bits of a byte
-masked : (top : ℕ) (t : Bool) (b held : ℕ) → leb held top ≡ true → leb (cond t (b % suc top) held) top ≡ true
-masked top t b held = kept (λ n. leb n top) t (b % suc top) held (λ e. le-leb (b % suc top) top (omega (arith, mod-lt b (zero-lt-suc top))))
+masked : (top : ℕ) (t : Bool) (b present : ℕ) → leb present top ≡ true → leb (cond t (b % suc top) present) top ≡ true
+masked top t b present = stays (λ n. leb n top) t (b % suc top) present (λ e. le-leb (b % suc top) top (omega (arith, mod-lt b (zero-lt-suc top))))
 
 lines-ok : (b : ℕ) → linesOk (linesOf b) ≡ true
 unfolding linesOk
@@ -66,42 +66,42 @@ module _ (d : scan.Settings) where
   display-after : (b : ℕ) → display.validSettings d ≡ true → display.validSettings (displayAfter d b) ≡ true
   unfolding display.validSettings displayAfter linesOk
   display-after b =
-      kept (λ n. ltb n 128) (isReset b) 0 (d .«start_line») (λ e. refl)
+      stays (λ n. ltb n 128) (isReset b) 0 (d .«start_line») (λ e. refl)
       and same
       and same
       and same
-      and kept linesOk (eqb b 228) 0 (d .«inversion_lines») (λ e. refl)
-      and (λ h. kept (λ n. leb n 7) (isReset b) 0 _ (λ e. refl) (masked 7 (between 144 151 b) b (d .«gray_mode») h))
+      and stays linesOk (eqb b 0xe4) 0 (d .«inversion_lines») (λ e. refl)
+      and (λ h. stays (λ n. leb n 7) (isReset b) 0 _ (λ e. refl) (masked 7 (between 0x90 0x97 b) b (d .«gray_mode») h))
       and same
       and same
 
   display-with : (c b : ℕ) → display.validSettings d ≡ true → display.validSettings (displayWith d c b) ≡ true
   unfolding display.validSettings displayWith
   display-with c b =
-      line (between 64 67 c) (d .«start_line»)
-      and line (between 68 71 c) (d .«initial_com»)
-      and kept (λ n. leb 16 n) (between 72 75 c && between 16 128 b) b (d .duty) (λ e. duty e .0)
-      and kept (λ n. leb n 128) (between 72 75 c && between 16 128 b) b (d .duty) (λ e. duty e .1)
-      and kept linesOk (between 76 79 c) (linesOf b) (d .«inversion_lines») (λ e. lines-ok b)
+      line (between 0x40 0x43 c) (d .«start_line»)
+      and line (between 0x44 0x47 c) (d .«initial_com»)
+      and stays (λ n. leb 16 n) (between 0x48 0x4b c && between 16 128 b) b (d .duty) (λ e. duty e .0)
+      and stays (λ n. leb n 128) (between 0x48 0x4b c && between 16 128 b) b (d .duty) (λ e. duty e .1)
+      and stays linesOk (between 0x4c 0x4f c) (linesOf b) (d .«inversion_lines») (λ e. lines-ok b)
       and same
-      and masked 3 (eqb c 247) b (d .«oscillator_control»)
-      and masked 31 (eqb c 246) b (d .«oscillator_frequency»)
+      and masked 3 (eqb c 0xf7) b (d .«oscillator_control»)
+      and masked 31 (eqb c 0xf6) b (d .«oscillator_frequency»)
     where
-      line : (t : Bool) (held : ℕ) → ltb held 128 ≡ true → ltb (cond t (b % 128) held) 128 ≡ true
-      line t held = kept (λ n. ltb n 128) t (b % 128) held (λ e. lt-ltb (b % 128) 128 (omega arith))
+      line : (t : Bool) (present : ℕ) → ltb present 128 ≡ true → ltb (cond t (b % 128) present) 128 ≡ true
+      line t present = stays (λ n. ltb n 128) t (b % 128) present (λ e. lt-ltb (b % 128) 128 (omega arith))
 
-      duty : between 72 75 c && between 16 128 b ≡ true → (leb 16 b ≡ true) × (leb b 128 ≡ true)
-      duty e = both (leb 16 b) (leb b 128) (both (between 72 75 c) (between 16 128 b) e .1)
+      duty : between 0x48 0x4b c && between 16 128 b ≡ true → (leb 16 b ≡ true) × (leb b 128 ≡ true)
+      duty e = both (leb 16 b) (leb b 128) (both (between 0x48 0x4b c) (between 16 128 b) e .1)
 
 module _ (a : voltage.Settings) where
   analog-after : (b : ℕ) → analog.validSettings a ≡ true → analog.validSettings (analogAfter a b) ≡ true
   unfolding analog.validSettings analogAfter
   analog-after b =
-      kept (λ n. leb n 63) (isReset b) 32 (a .contrast) (λ e. refl)
-      and (λ h. kept (λ n. leb n 7) (isReset b) 0 _ (λ e. refl) (masked 7 (between 32 39 b) b (a .regulator) h))
-      and masked 7 (between 40 47 b) b (a .«power_control»)
-      and (λ h. kept validBooster (between 100 103 b) (b % 4) _ (λ e. booster-low b) (kept validBooster (between 108 111 b) (8 + b % 4) (a .booster) (λ e. booster-high b) h))
-      and masked 7 (between 80 87 b) b (a .bias)
+      stays (λ n. leb n 63) (isReset b) 32 (a .contrast) (λ e. refl)
+      and (λ h. stays (λ n. leb n 7) (isReset b) 0 _ (λ e. refl) (masked 7 (between 0x20 0x27 b) b (a .regulator) h))
+      and masked 7 (between 0x28 0x2f b) b (a .«power_control»)
+      and (λ h. stays validBooster (between 0x64 0x67 b) (b % 4) _ (λ e. booster-low b) (stays validBooster (between 0x6c 0x6f b) (8 + b % 4) (a .booster) (λ e. booster-high b) h))
+      and masked 7 (between 0x50 0x57 b) b (a .bias)
       and same
       and same
       and same
@@ -109,20 +109,20 @@ module _ (a : voltage.Settings) where
   analog-with : (c b : ℕ) → analog.validSettings a ≡ true → analog.validSettings (analogWith a c b) ≡ true
   unfolding analog.validSettings analogWith
   analog-with c b =
-      masked 63 (eqb c 129) b (a .contrast)
+      masked 63 (eqb c 0x81) b (a .contrast)
       and same
       and same
       and same
       and same
-      and masked 1 (eqb c 241) b (a .«temperature_slope»)
-      and masked 15 (eqb c 243) b (a .«contrast_trim»)
-      and masked 3 (eqb c 244) b (a .«otp_control»)
+      and masked 1 (eqb c 0xf1) b (a .«temperature_slope»)
+      and masked 15 (eqb c 0xf3) b (a .«contrast_trim»)
+      and masked 3 (eqb c 0xf4) b (a .«otp_control»)
 
 -- a column that a byte sets, and one that comes back
 column-below : (b column : ℕ) → ltb column 256 ≡ true → ltb (columnSet b column) 256 ≡ true
 column-below b column h =
-    kept (λ n. ltb n 256) (leb b 15) ((column / 32 % 8 * 16 + b) * 2) _ (λ e. lt-ltb ((column / 32 % 8 * 16 + b) * 2) 256 (omega (arith, leb-true b 15 e)))
-    (kept (λ n. ltb n 256) (between 16 23 b) ((b % 8 * 16 + column / 2 % 16) * 2) column (λ e. lt-ltb ((b % 8 * 16 + column / 2 % 16) * 2) 256 (omega arith)) h)
+    stays (λ n. ltb n 256) (leb b 0x0f) ((column / 32 % 8 * 16 + b) * 2) _ (λ e. lt-ltb ((column / 32 % 8 * 16 + b) * 2) 256 (omega (arith, leb-true b 15 e)))
+    (stays (λ n. ltb n 256) (between 0x10 0x17 b) ((b % 8 * 16 + column / 2 % 16) * 2) column (λ e. lt-ltb ((b % 8 * 16 + column / 2 % 16) * 2) 256 (omega arith)) h)
 
 back-below : (saved : SavedColumn) (column : ℕ) → validSaved saved ≡ true → ltb column 256 ≡ true → ltb (columnOr saved column) 256 ≡ true
 unfolding validSaved columnOr
@@ -138,20 +138,20 @@ module _ (a : Address) (b : ℕ) (ok : validAddress a ≡ true) where
       simp (page (q .0), column (q .1) (p .1), saved (q .1) (p .1))
     where
       page : leb (a .page) 16 ≡ true → leb (addressAfter a b .page) 16 ≡ true
-      page held =
-          kept (λ n. leb n 16) (isReset b) 0 _ (λ e. refl)
-          (kept (λ n. leb n 16) (eqb b 163) 16 _ (λ e. refl)
-          (kept (λ n. leb n 16) (between 176 191 b) (b % 16) (a .page) (λ e. le-leb (b % 16) 16 (omega arith)) held))
+      page present =
+          stays (λ n. leb n 16) (isReset b) 0 _ (λ e. refl)
+          (stays (λ n. leb n 16) (eqb b 0xa3) 16 _ (λ e. refl)
+          (stays (λ n. leb n 16) (between 0xb0 0xbf b) (b % 16) (a .page) (λ e. le-leb (b % 16) 16 (omega arith)) present))
 
       column : ltb (a .«column_byte») 256 ≡ true → validSaved (a .«saved_column») ≡ true → ltb (addressAfter a b .«column_byte») 256 ≡ true
       column below s =
-          kept (λ n. ltb n 256) (isReset b) 0 _ (λ e. refl)
-          (kept (λ n. ltb n 256) (eqb b 238) (columnOr (a .«saved_column») (a .«column_byte»)) _ (λ e. back-below (a .«saved_column») (a .«column_byte») s below) (column-below b (a .«column_byte») below))
+          stays (λ n. ltb n 256) (isReset b) 0 _ (λ e. refl)
+          (stays (λ n. ltb n 256) (eqb b 0xee) (columnOr (a .«saved_column») (a .«column_byte»)) _ (λ e. back-below (a .«saved_column») (a .«column_byte») s below) (column-below b (a .«column_byte») below))
 
       saved : ltb (a .«column_byte») 256 ≡ true → validSaved (a .«saved_column») ≡ true → validSaved (addressAfter a b .«saved_column») ≡ true
       saved below s =
-          kept validSaved (isReset b || eqb b 238) SavedColumn.None _ (λ e. refl)
-          (kept validSaved (eqb b 224) (SavedColumn.Column (a .«column_byte»)) (a .«saved_column») (λ e. below) s)
+          stays validSaved (isReset b || eqb b 0xee) SavedColumn.None _ (λ e. refl)
+          (stays validSaved (eqb b 0xe0) (SavedColumn.Column (a .«column_byte»)) (a .«saved_column») (λ e. below) s)
 
 module _ (x : Nt7508) (v : Valid x) where
   with-pending : (p : Pending) → validPending p ≡ true → validSerial (withPending (x .serial) p) ≡ true
@@ -209,7 +209,7 @@ module _ (x : Nt7508) (b : ℕ) (now : Time) where
   command-valid fits v = stepped Valid (λ c. parameter-valid x v c b) (awaiting-valid x v b) (acted-valid x v b)
 
 -- E3 leaves every register as it was
-pub nop-acted : (x : Nt7508) → x .serial .pending ≡ Pending.None → acted x 227 ≡ x
+pub nop-acted : (x : Nt7508) → x .serial .pending ≡ Pending.None → acted x 0xe3 ≡ x
 unfolding acted displayAfter analogAfter powerAfter addressAfter
 nop-acted x h = λ i. record {
   scan = x .scan;

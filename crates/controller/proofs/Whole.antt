@@ -149,8 +149,8 @@ module _ (x : Nt7508) (b : ℕ) (now : Time) (ram icons : List ℕ) where
     pub byte-passed : k ≡ scans.Check.Passed → (none, stepOf (withScan x y) b now) ≡ changed (checkScan (x .scan)) (byteTaken x b now ram icons) (unstored x)
     byte-passed h =
         let passed : checkScan (x .scan) ≡ none = sym (ap (λ (p : Option ℕ × Scan). p .0) e) ∙ ap display.refused h in
-        let kept : y ≡ scanAfter x b now ram icons = ap (λ (p : Option ℕ × Scan). p .1) e ∙ ap (λ (c : Option ℕ). unlessRefused c (scanAfter x b now ram icons) (x .scan)) passed in
-        ap (λ (s : Stepped). (none, s)) (ap (λ (z : Scan). stepOf (withScan x z) b now) kept ∙ step-scan x (scanAfter x b now ram icons) b now ∙ sym (byte-parts x b now ram icons))
+        let by-rule : y ≡ scanAfter x b now ram icons = ap (λ (p : Option ℕ × Scan). p .1) e ∙ ap (λ (c : Option ℕ). unlessRefused c (scanAfter x b now ram icons) (x .scan)) passed in
+        ap (λ (s : Stepped). (none, s)) (ap (λ (z : Scan). stepOf (withScan x z) b now) by-rule ∙ step-scan x (scanAfter x b now ram icons) b now ∙ sym (byte-parts x b now ram icons))
         ∙ sym (ap (λ (c : Option ℕ). changed c (byteTaken x b now ram icons) (unstored x)) passed)
 
 -- ---- groups

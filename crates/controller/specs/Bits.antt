@@ -29,7 +29,7 @@ pub record Outcome : Type 0 where
 unfoldable pub taking : Nt7508 → Bool
 taking x = x .serial .selected && x .power .supplied && not (waiting (x .power .ready))
 
--- one bit more; eight bits are kept
+-- one bit more; eight bits remain
 abbrev pub shiftedIn : Serial → (bit : Bool) → ℕ
 shiftedIn l bit = (l .shift * 2 + cond bit 1 0) % 256
 

@@ -1,4 +1,4 @@
--- Document 01, 'Controller': a data byte, and a whole byte. The scan is counted and its latch kept by the settings before the
+-- Document 01, 'Controller': a data byte, and a whole byte. The scan is counted and its latch retained by the settings before the
 -- byte, the byte acts, and inversion, start and clock go by the settings and memory after it.
 use Prim.Native.Nat.{ℕ, _+_, _*_, _%_}
 use mathlib.Core.Bool.{Bool, true, false, cond}
@@ -59,7 +59,7 @@ dataStep x b now = record {
 abbrev pub pageSent : Nt7508 → DataPage
 pageSent x = cond (x .serial .«data») (DataPage.Page (x .address .page)) DataPage.None
 
--- counted to the moment, the latch kept where the byte could alter the row shown
+-- counted to the moment, the latch retained where the byte could alter the row shown
 unfoldable pub found : Nt7508 → Time → (ram icons : List ℕ) → Nt7508
 found x now ram icons = withScan x (retained (countTo (x .scan) (x .display) now) (x .display) (pageSent x) ram icons)
 

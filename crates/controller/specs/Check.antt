@@ -48,7 +48,7 @@ between low high n = leb low n && leb n high
 
 -- the bytes that await a parameter: 40 to 4F, 81, 88 to 8F, F1, F3, F4, F6, F7
 unfoldable pub awaits : ℕ → Bool
-awaits b = between 64 79 b || eqb b 129 || between 136 143 b || eqb b 241 || eqb b 243 || eqb b 244 || eqb b 246 || eqb b 247
+awaits b = between 0x40 0x4f b || eqb b 0x81 || between 0x88 0x8f b || eqb b 0xf1 || eqb b 0xf3 || eqb b 0xf4 || eqb b 0xf6 || eqb b 0xf7
 
 -- a pending byte is one that awaits a parameter
 unfoldable pub validPending : Pending → Bool

@@ -93,10 +93,10 @@ sent x command parameter now =
     commandStep s (s .serial .pending) parameter now
 
 -- the event that the parameter gives
-abbrev pub told : (command parameter : ℕ) → Time → Event
-told command parameter now = Event.Control now command (Parameter.Byte parameter)
+abbrev pub commandEvent : (command parameter : ℕ) → Time → Event
+commandEvent command parameter now = Event.Control now command (Parameter.Byte parameter)
 
--- what a row says. Inversion is command 4C, 76; duty is 48, 72. Either is sent to any state, at any moment
+-- what a row says. Inversion is command 4C, duty is 48. Either is sent to any state, at any moment
 unfoldable pub Holds : Figure → Type 0
 Holds (targetIs t slope regulator contrast v) =
     levelsAt t slope regulator contrast (powerOn .analog .booster) (powerOn .analog .bias) (powerOn .power .«supply_millivolts») .target ≡ v
@@ -104,10 +104,10 @@ Holds (v0Is regulator contrast booster supply v) = levelsAt 25000 0 regulator co
 Holds (levelsAre regulator contrast booster supply bias v1 v2 v3 v4) =
     let v = levelsAt 25000 0 regulator contrast booster bias supply in
     (v .v1 ≡ Level.Microvolts v1) × (v .v2 ≡ Level.Microvolts v2) × (v .v3 ≡ Level.Microvolts v3) × (v .v4 ≡ Level.Microvolts v4)
-Holds (linesAre b lines) = (x : Nt7508) (now : Time) → sent x 76 b now .state .display .«inversion_lines» ≡ lines
+Holds (linesAre b lines) = (x : Nt7508) (now : Time) → sent x 0x4c b now .state .display .«inversion_lines» ≡ lines
 Holds (dutyIgnored b) =
-    (x : Nt7508) (now : Time) → sent x 72 b now ≡ record { state = withSerial x (withPending (x .serial) Pending.None); event = told 72 b now; store = Store.Nothing }
-Holds (dutyTaken b) = (x : Nt7508) (now : Time) → (sent x 72 b now .state .display .duty ≡ b) × (sent x 72 b now .event ≡ told 72 b now)
+    (x : Nt7508) (now : Time) → sent x 0x48 b now ≡ record { state = withSerial x (withPending (x .serial) Pending.None); event = commandEvent 0x48 b now; store = Store.Nothing }
+Holds (dutyTaken b) = (x : Nt7508) (now : Time) → (sent x 0x48 b now .state .display .duty ≡ b) × (sent x 0x48 b now .event ≡ commandEvent 0x48 b now)
 Holds (edgesAre p seconds fraction n) =
     let r : Rate = record { numerator = p; denominator = 1 } in
     edgesTo (started zero r) r (record { seconds = seconds; fraction = fraction }) ≡ n

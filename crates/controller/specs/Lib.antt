@@ -6,7 +6,7 @@ pub mod Command
 pub mod Byte
 pub mod Bits
 pub mod Closed
-pub mod Quick
+pub mod Fast
 pub mod Supply
 pub mod Look
 pub mod Figures

@@ -134,7 +134,7 @@ atDeadline x now = changed (checkMoment x now) (withPower x (deadlineMet (x .pow
 unfoldable pub zeros : ℕ → List ℕ
 zeros n = replicate n 0
 
--- a loss of memory: RAM and icons all 0, and cold; a kept latch stays, none is made
+-- a loss of memory: RAM and icons all 0, and cold; a retained latch stays, none is made
 abbrev pub lostBy : Changed → (ram icons : List ℕ) → Option ℕ × (Nt7508 × (List ℕ × List ℕ))
 lostBy r ram icons = (refused (r .check), (r .state, (ram, icons)))
 

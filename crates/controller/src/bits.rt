@@ -53,7 +53,7 @@ fn with_bits(state: Nt7508, shift: u8, bits: u8) -> Nt7508
     next
 }
 
-// A number with `count` bits more below it; eight bits are kept.
+// A number with `count` bits more below it; eight bits remain.
 fn joined(shift: u8, bits: u8, count: u8) -> u8
     requires { ⌜ count ≤ 8 ⌝ }
     ensures { λ r. ⌜ r ≡ (shift * 2 ^ count + bits) % 256 ⌝ }

@@ -28,7 +28,7 @@ use crate::state::Pending;
 use crate::state::Power;
 use crate::state::Ready;
 use crate::state::Serial;
-use crate::update::with_scan;
+use crate::state::with_scan;
 use clock::Time;
 use scan::Conditions;
 use scan::DataPage;
@@ -205,8 +205,8 @@ pub(crate) fn byte(state: Nt7508, byte: u8, moment: Time, ram: &[u8], icons: &[u
             stepped: unstored(state),
         };
     };
-    let kept = answer.scan;
-    let stepped = step(with_scan(state, kept), byte, moment);
+    let scan = answer.scan;
+    let stepped = step(with_scan(state, scan), byte, moment);
     Taken {
         check: Check::Passed,
         stepped: stepped,

@@ -63,14 +63,14 @@ fn first(a: Check, b: Check) -> Check
 pub(crate) fn awaits(byte: u8) -> bool
     ensures { λ r. ⌜ r ≡ awaitsOf byte ⌝ }
 {
-    ((64 <= byte) & (byte <= 79))
-        | (byte == 129)
-        | ((136 <= byte) & (byte <= 143))
-        | (byte == 241)
-        | (byte == 243)
-        | (byte == 244)
-        | (byte == 246)
-        | (byte == 247)
+    ((0x40 <= byte) & (byte <= 0x4f))
+        | (byte == 0x81)
+        | ((0x88 <= byte) & (byte <= 0x8f))
+        | (byte == 0xf1)
+        | (byte == 0xf3)
+        | (byte == 0xf4)
+        | (byte == 0xf6)
+        | (byte == 0xf7)
 }
 
 fn valid_pending(pending: Pending) -> bool

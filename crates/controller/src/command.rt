@@ -20,7 +20,7 @@ use crate::state::Serial;
 use clock::Time;
 
 // E2.
-const RESET: u8 = 226;
+const RESET: u8 = 0xe2;
 
 fn between(low: u8, high: u8, byte: u8) -> bool
     ensures { λ r. ⌜ r ≡ betweenOf low high byte ⌝ }
@@ -48,8 +48,8 @@ fn pick_column(first: bool, a: u16, b: u16) -> u16
 }
 
 // A flag that is cleared, set or left.
-fn flag_by(clears: bool, sets: bool, held: bool) -> bool
-    ensures { λ r. ⌜ r ≡ cond clears false (cond sets true held) ⌝ }
+fn flag_by(clears: bool, sets: bool, present: bool) -> bool
+    ensures { λ r. ⌜ r ≡ cond clears false (cond sets true present) ⌝ }
 {
     if clears {
         return false;
@@ -57,31 +57,31 @@ fn flag_by(clears: bool, sets: bool, held: bool) -> bool
     if sets {
         return true;
     }
-    held
+    present
 }
 
 // A flag that one byte clears and another sets.
-fn flag_after(off: u8, on: u8, byte: u8, held: bool) -> bool
-    ensures { λ r. ⌜ r ≡ flagAfter off on byte held ⌝ }
+fn flag_after(off: u8, on: u8, byte: u8, present: bool) -> bool
+    ensures { λ r. ⌜ r ≡ flagAfter off on byte present ⌝ }
 {
-    flag_by(byte == off, byte == on, held)
+    flag_by(byte == off, byte == on, present)
 }
 
 // A register that a run of bytes sets.
-fn by_run(low: u8, high: u8, byte: u8, value: u8, held: u8) -> u8
-    ensures { λ r. ⌜ r ≡ cond (betweenOf low high byte) value held ⌝ }
+fn by_run(low: u8, high: u8, byte: u8, value: u8, present: u8) -> u8
+    ensures { λ r. ⌜ r ≡ cond (betweenOf low high byte) value present ⌝ }
 {
-    pick((low <= byte) & (byte <= high), value, held)
+    pick((low <= byte) & (byte <= high), value, present)
 }
 
 // The palette, which a reset sets again.
-fn palette_after(reset: bool, held: [u8; 8]) -> [u8; 8]
-    ensures { λ r. ⌜ r ≡ cond reset palette held ⌝ }
+fn palette_after(reset: bool, present: [u8; 8]) -> [u8; 8]
+    ensures { λ r. ⌜ r ≡ cond reset palette present ⌝ }
 {
     if reset {
         return [0, 0, 0, 0, 255, 255, 255, 255];
     }
-    held
+    present
 }
 
 pub(crate) fn display_after(display: scan::Settings, byte: u8) -> scan::Settings
@@ -90,23 +90,23 @@ pub(crate) fn display_after(display: scan::Settings, byte: u8) -> scan::Settings
     let reset = byte == RESET;
     let mut next = display;
     next.start_line = pick(reset, 0, display.start_line);
-    next.icon_enabled = flag_after(162, 163, byte, display.icon_enabled);
-    next.entire_on = flag_after(164, 165, byte, display.entire_on);
-    next.reverse = flag_after(166, 167, byte, display.reverse);
-    next.segment_reverse = flag_after(160, 161, byte, display.segment_reverse);
+    next.icon_enabled = flag_after(0xa2, 0xa3, byte, display.icon_enabled);
+    next.entire_on = flag_after(0xa4, 0xa5, byte, display.entire_on);
+    next.reverse = flag_after(0xa6, 0xa7, byte, display.reverse);
+    next.segment_reverse = flag_after(0xa0, 0xa1, byte, display.segment_reverse);
     next.common_reverse = flag_by(
-        between(192, 199, byte),
-        between(200, 207, byte),
+        between(0xc0, 0xc7, byte),
+        between(0xc8, 0xcf, byte),
         display.common_reverse,
     );
-    next.inversion_lines = pick(byte == 228, 0, display.inversion_lines);
+    next.inversion_lines = pick(byte == 0xe4, 0, display.inversion_lines);
     next.gray_mode = pick(
         reset,
         0,
-        by_run(144, 151, byte, byte % 8, display.gray_mode),
+        by_run(0x90, 0x97, byte, byte % 8, display.gray_mode),
     );
-    let held = display.palette;
-    let palette = palette_after(reset, held);
+    let present = display.palette;
+    let palette = palette_after(reset, present);
     next.palette = palette;
     next
 }
@@ -117,16 +117,20 @@ fn analog_after(analog: voltage::Settings, byte: u8) -> voltage::Settings
     let reset = byte == RESET;
     let mut next = analog;
     next.contrast = pick(reset, 32, analog.contrast);
-    next.regulator = pick(reset, 0, by_run(32, 39, byte, byte % 8, analog.regulator));
-    next.power_control = by_run(40, 47, byte, byte % 8, analog.power_control);
+    next.regulator = pick(
+        reset,
+        0,
+        by_run(0x20, 0x27, byte, byte % 8, analog.regulator),
+    );
+    next.power_control = by_run(0x28, 0x2f, byte, byte % 8, analog.power_control);
     next.booster = by_run(
-        100,
-        103,
+        0x64,
+        0x67,
         byte,
         byte % 4,
-        by_run(108, 111, byte, 8 + byte % 4, analog.booster),
+        by_run(0x6c, 0x6f, byte, 8 + byte % 4, analog.booster),
     );
-    next.bias = by_run(80, 87, byte, byte % 8, analog.bias);
+    next.bias = by_run(0x50, 0x57, byte, byte % 8, analog.bias);
     next
 }
 
@@ -134,13 +138,13 @@ pub(crate) fn power_after(power: Power, byte: u8) -> Power
     ensures { λ r. ⌜ r ≡ powerAfter power byte ⌝ }
 {
     let mut next = power;
-    next.display_on = flag_after(174, 175, byte, power.display_on);
+    next.display_on = flag_after(0xae, 0xaf, byte, power.display_on);
     next.power_save = pick_flag(
-        byte == 225,
+        byte == 0xe1,
         false,
-        flag_after(168, 169, byte, power.power_save),
+        flag_after(0xa8, 0xa9, byte, power.power_save),
     );
-    next.oscillator_enabled = pick_flag(byte == 171, true, power.oscillator_enabled);
+    next.oscillator_enabled = pick_flag(byte == 0xab, true, power.oscillator_enabled);
     next
 }
 
@@ -149,10 +153,10 @@ fn column_set(byte: u8, column: u16) -> u16
     ensures { λ r. ⌜ r ≡ columnSet byte column ⌝ }
 {
     pick_column(
-        byte <= 15,
+        byte <= 0x0f,
         (column / 32 % 8 * 16 + byte as u16) * 2,
         pick_column(
-            between(16, 23, byte),
+            between(0x10, 0x17, byte),
             ((byte % 8) as u16 * 16 + column / 2 % 16) * 2,
             column,
         ),
@@ -161,7 +165,7 @@ fn column_set(byte: u8, column: u16) -> u16
 
 // EE: a saved column comes back, once.
 fn column_back(address: Address) -> Address
-    ensures { λ r. ⌜ r ≡ addressAfter address 238 ⌝ }
+    ensures { λ r. ⌜ r ≡ addressAfter address 0xee ⌝ }
 {
     let saved = address.saved_column;
     let SavedColumn::Column(column) = saved else {
@@ -184,12 +188,12 @@ pub(crate) fn address_after(address: Address, byte: u8) -> Address
             saved_column: SavedColumn::None,
         };
     }
-    if byte == 238 {
+    if byte == 0xee {
         return column_back(address);
     }
     let page = address.page;
     let column = address.column_byte;
-    if byte == 224 {
+    if byte == 0xe0 {
         return Address {
             page: page,
             column_byte: column,
@@ -198,20 +202,20 @@ pub(crate) fn address_after(address: Address, byte: u8) -> Address
     }
     let saved = address.saved_column;
     Address {
-        page: pick(byte == 163, 16, by_run(176, 191, byte, byte % 16, page)),
+        page: pick(byte == 0xa3, 16, by_run(0xb0, 0xbf, byte, byte % 16, page)),
         column_byte: column_set(byte, column),
         saved_column: saved,
     }
 }
 
 // The duty, from 16 to 128 only.
-fn duty_with(command: u8, byte: u8, held: u8) -> u8
-    ensures { λ r. ⌜ r ≡ dutyWith command byte held ⌝ }
+fn duty_with(command: u8, byte: u8, present: u8) -> u8
+    ensures { λ r. ⌜ r ≡ dutyWith command byte present ⌝ }
 {
     pick(
-        between(72, 75, command) & between(16, 128, byte),
+        between(0x48, 0x4b, command) & between(16, 128, byte),
         byte,
-        held,
+        present,
     )
 }
 
@@ -223,30 +227,30 @@ fn lines_of(byte: u8) -> u8
 }
 
 // The palette with the entry that a command names.
-fn palette_with(held: [u8; 8], command: u8, byte: u8) -> [u8; 8]
-    ensures { λ r. ⌜ r ≡ cond (betweenOf 136 143 command) (set held (command - 136) byte) held ⌝ }
+fn palette_with(present: [u8; 8], command: u8, byte: u8) -> [u8; 8]
+    ensures { λ r. ⌜ r ≡ cond (betweenOf 0x88 0x8f command) (set present (command - 0x88) byte) present ⌝ }
 {
-    if between(136, 143, command) {
-        let at = (command - 136) as usize;
-        let mut next = held;
+    if between(0x88, 0x8f, command) {
+        let at = (command - 0x88) as usize;
+        let mut next = present;
         next[at] = byte;
         return next;
     }
-    held
+    present
 }
 
 pub(crate) fn display_with(display: scan::Settings, command: u8, byte: u8) -> scan::Settings
     ensures { λ r. ⌜ r ≡ displayWith display command byte ⌝ }
 {
     let mut next = display;
-    next.start_line = by_run(64, 67, command, byte % 128, display.start_line);
-    next.initial_com = by_run(68, 71, command, byte % 128, display.initial_com);
+    next.start_line = by_run(0x40, 0x43, command, byte % 128, display.start_line);
+    next.initial_com = by_run(0x44, 0x47, command, byte % 128, display.initial_com);
     next.duty = duty_with(command, byte, display.duty);
-    next.inversion_lines = by_run(76, 79, command, lines_of(byte), display.inversion_lines);
-    next.oscillator_control = pick(command == 247, byte % 4, display.oscillator_control);
-    next.oscillator_frequency = pick(command == 246, byte % 32, display.oscillator_frequency);
-    let held = display.palette;
-    let palette = palette_with(held, command, byte);
+    next.inversion_lines = by_run(0x4c, 0x4f, command, lines_of(byte), display.inversion_lines);
+    next.oscillator_control = pick(command == 0xf7, byte % 4, display.oscillator_control);
+    next.oscillator_frequency = pick(command == 0xf6, byte % 32, display.oscillator_frequency);
+    let present = display.palette;
+    let palette = palette_with(present, command, byte);
     next.palette = palette;
     next
 }
@@ -255,10 +259,10 @@ fn analog_with(analog: voltage::Settings, command: u8, byte: u8) -> voltage::Set
     ensures { λ r. ⌜ r ≡ analogWith analog command byte ⌝ }
 {
     let mut next = analog;
-    next.contrast = pick(command == 129, byte % 64, analog.contrast);
-    next.contrast_trim = pick(command == 243, byte % 16, analog.contrast_trim);
-    next.otp_control = pick(command == 244, byte % 4, analog.otp_control);
-    next.temperature_slope = pick(command == 241, byte % 2, analog.temperature_slope);
+    next.contrast = pick(command == 0x81, byte % 64, analog.contrast);
+    next.contrast_trim = pick(command == 0xf3, byte % 16, analog.contrast_trim);
+    next.otp_control = pick(command == 0xf4, byte % 4, analog.otp_control);
+    next.temperature_slope = pick(command == 0xf1, byte % 2, analog.temperature_slope);
     next
 }
 
@@ -281,12 +285,12 @@ fn acted(state: Nt7508, byte: u8) -> Nt7508
 fn with_pending(state: Nt7508, pending: Pending) -> Nt7508
     ensures { λ r. ⌜ r ≡ withSerial state (withPending (state .serial) pending) ⌝ }
 {
-    let held = state.serial;
+    let serial = state.serial;
     let serial = Serial {
-        selected: held.selected,
-        data: held.data,
-        shift: held.shift,
-        bits: held.bits,
+        selected: serial.selected,
+        data: serial.data,
+        shift: serial.shift,
+        bits: serial.bits,
         pending: pending,
     };
     let mut next = state;

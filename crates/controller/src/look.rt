@@ -180,7 +180,7 @@ impl Nt7508 {
         }
     }
 
-    // A state that was kept elsewhere, with its RAM and icons: handed back if no check turns it down.
+    // A state that was saved elsewhere, with its RAM and icons: handed back if no check turns it down.
     pub fn restore(self, moment: Time, ram: &[u8], icons: &[u8]) -> Changed
         ensures { λ r. ⌜ answered r ≡ restoreOf self moment (now (ram .entry)) (now (icons .entry)) ⌝ }
     {

@@ -1,7 +1,7 @@
 // The controller's state, in groups: what the serial line holds, where data goes, the display and
 // analog registers, the power, and the scan. RAM and icons are lent by the caller.
 ghost use mathlib.Core.Path.{_≡_};
-ghost use Rattle.controller.specs.State.{powerOn};
+ghost use Rattle.controller.specs.State.{powerOn, withScan};
 use clock::Time;
 use scan::Scan;
 
@@ -116,4 +116,13 @@ impl Nt7508 {
             },
         }
     }
+}
+
+// The state with another scan.
+pub(crate) fn with_scan(state: Nt7508, scan: Scan) -> Nt7508
+    ensures { λ r. ⌜ r ≡ withScan state scan ⌝ }
+{
+    let mut next = state;
+    next.scan = scan;
+    next
 }

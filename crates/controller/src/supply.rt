@@ -80,8 +80,8 @@ fn fallen(state: Nt7508, now: Time) -> Nt7508
     requires { ⌜ checkMoment state now ≡ none ⌝ }
     ensures { λ r. ⌜ r ≡ fallenOf state now ⌝ }
 {
-    let held = state.scan;
-    let stopped = held.fall(state.display, now);
+    let scan = state.scan;
+    let stopped = scan.fall(state.display, now);
     let scan = stopped.scan;
     let before = state.power;
     let power = with_ready(before, before.cold, Ready::Now);

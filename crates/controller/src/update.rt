@@ -1,12 +1,11 @@
-// The update call: the scan is kept as counted to a moment.
+// The update call: the scan stays as counted to a moment.
 ghost use mathlib.Core.Path.{_≡_};
-ghost use Rattle.controller.specs.State.{withScan};
 ghost use Rattle.controller.specs.Update.{answeredUpdate, update as updateOf};
 use crate::check::Check;
 use crate::check::check_moment;
 use crate::state::Nt7508;
+use crate::state::with_scan;
 use clock::Time;
-use scan::Scan;
 
 // The state with its scan counted to the moment, and how many pieces that took; or the refusal and the
 // state given.
@@ -14,14 +13,6 @@ pub struct Updated {
     pub check: Check,
     pub state: Nt7508,
     pub pieces: u8,
-}
-
-pub(crate) fn with_scan(state: Nt7508, scan: Scan) -> Nt7508
-    ensures { λ r. ⌜ r ≡ withScan state scan ⌝ }
-{
-    let mut next = state;
-    next.scan = scan;
-    next
 }
 
 impl Nt7508 {
@@ -37,8 +28,8 @@ impl Nt7508 {
                 pieces: 0,
             };
         };
-        let held = self.scan;
-        let counted = held.count_to(self.display, now);
+        let scan = self.scan;
+        let counted = scan.count_to(self.display, now);
         let scan = counted.scan;
         let next = with_scan(self, scan);
         Updated {

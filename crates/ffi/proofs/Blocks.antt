@@ -1,4 +1,4 @@
--- Words pasted into a block one part after another: what is done, and behind it what the block held before.
+-- Words pasted into a block one part after another: what is done, and behind it what the block had before.
 use Prim.Native.Nat.{ℕ, suc, _+_, _≤_, _<_}
 use mathlib.Core.List.{List, [], _++_, append-nil, append-assoc}
 use mathlib.Core.Path.{_≡_, refl, ap, sym, _∙_}
@@ -60,8 +60,8 @@ filled-more {w} {done} {now} {n} part m l e f = record {
       ∙ ap (λ (k : ℕ). (done ++ part) ++ drop (n + k) w) l;
 }
 
-pub filled-kept : {w done now : List ℕ} {n : ℕ} (part : List ℕ) (m : ℕ) → length part ≡ m → drop n w ≡ part ++ drop (n + m) w → Filled w done n now → Filled w (done ++ part) (n + m) now
-filled-kept {w} {done} {now} {n} part m l e f = record {
+pub filled-same : {w done now : List ℕ} {n : ℕ} (part : List ℕ) (m : ℕ) → length part ≡ m → drop n w ≡ part ++ drop (n + m) w → Filled w done n now → Filled w (done ++ part) (n + m) now
+filled-same {w} {done} {now} {n} part m l e f = record {
   long = longer done part n m l (f .long);
   is = f .is ∙ ap (λ (r : List ℕ). done ++ r) e ∙ sym (append-assoc done part (drop (n + m) w));
 }

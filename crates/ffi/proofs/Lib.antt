@@ -2,9 +2,9 @@ pub mod Answers
 pub mod Blocks
 mod Orders
 mod Fits
-pub mod Held
-pub mod Kept
+pub mod OnBlock
+pub mod Unchanged
 mod Moved
 pub mod RoundTrip
 pub mod Temperatures
-pub mod Usual
+pub mod FastPath

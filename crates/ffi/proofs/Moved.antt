@@ -1,4 +1,4 @@
--- The words that a usual byte can change, put into those of a state: they are then the words of the state that the byte leaves. On the
+-- The words that a byte of the fast path can change, put into those of a state: they are then the words of the state that the byte leaves. On the
 -- words of a state every store computes, but for those of a clock, which runs or not.
 use Prim.Native.Nat.{ℕ}
 use mathlib.Core.List.{List, _∷_}
@@ -11,12 +11,12 @@ use Rattle.scan.proofs.Leaves.{Period, Lasting, periodOf, lasting}
 use Rattle.controller.specs.declared.state.Nt7508.{Nt7508}
 use Rattle.controller.specs.declared.state.Address.{Address}
 use Rattle.controller.specs.declared.state.SavedColumn.{SavedColumn}
-use Rattle.controller.specs.declared.quick.Sent.{Sent}
+use Rattle.controller.specs.declared.fast.FastStep.{FastStep}
 use Rattle.controller.specs.Bits.{withBits}
 use Rattle.ffi.specs.ScanWords.{runningWords}
 use Rattle.ffi.specs.StateWords.{scanPart, displayPart, powerPart, addressPart, serialPart, stateWords}
-use Rattle.ffi.specs.QuickWords.{clockPut, latchPut, countersPut, linePut, sentPut}
-use Rattle.ffi.proofs.Kept.{from}
+use Rattle.ffi.specs.FastWords.{clockPut, latchPut, countersPut, linePut, fastPut}
+use Rattle.ffi.proofs.Unchanged.{from}
 
 clock-moved : (z x : ScanClock) → periodOf z ≡ periodOf x → (rest : List ℕ) → clockPut z (from 9 0 (runningWords x) rest) ≡ from 9 0 (runningWords z) rest
 unfolding clockPut
@@ -43,9 +43,9 @@ withLasting z k = record {
 abbrev withSaved : Address → SavedColumn → Address
 withSaved a saved = record { page = a .page; «column_byte» = a .«column_byte»; «saved_column» = saved }
 
-pub sent-moved : (x : Nt7508) (s : Sent) → lasting (s .scan) ≡ lasting (x .scan) → s .address .«saved_column» ≡ x .address .«saved_column» → sentPut s (stateWords x) ≡ stateWords (record { scan = s .scan; display = x .display; analog = x .analog; power = x .power; address = s .address; serial = withBits (x .serial) 0 0 })
-unfolding sentPut latchPut countersPut linePut stateWords scanPart displayPart powerPart addressPart serialPart
-sent-moved x s lasts saved =
+pub fast-moved : (x : Nt7508) (s : FastStep) → lasting (s .scan) ≡ lasting (x .scan) → s .address .«saved_column» ≡ x .address .«saved_column» → fastPut s (stateWords x) ≡ stateWords (record { scan = s .scan; display = x .display; analog = x .analog; power = x .power; address = s .address; serial = withBits (x .serial) 0 0 })
+unfolding fastPut latchPut countersPut linePut stateWords scanPart displayPart powerPart addressPart serialPart
+fast-moved x s lasts saved =
     ap (λ (w : List ℕ). linePut (s .address) (countersPut (s .scan) (latchPut (s .scan) w))) (clock-moved (s .scan .ticking .clock) (x .scan .ticking .clock) (ap (λ (k : Lasting). k .period) lasts) (drop 9 (stateWords x)))
     ∙ (λ i. stateWords (record {
       scan = withLasting (s .scan) (sym lasts i);

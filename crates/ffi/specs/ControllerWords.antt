@@ -66,8 +66,8 @@ dataOn w on = onBlock w (commandData (stateOf w) on) (stateOf w)
 abbrev pub suppliedOn : (w : List ℕ) → (millivolts seconds fraction : ℕ) → Option ℕ × Nt7508
 suppliedOn w millivolts seconds fraction = onBlock w (setSupply (stateOf w) millivolts (time seconds fraction)) (stateOf w)
 
-abbrev pub warmedOn : (w : List ℕ) → (millicelsius : ℤ) → Option ℕ × Nt7508
-warmedOn w millicelsius = onBlock w (setTemperature (stateOf w) millicelsius) (stateOf w)
+abbrev pub temperatureOn : (w : List ℕ) → (millicelsius : ℤ) → Option ℕ × Nt7508
+temperatureOn w millicelsius = onBlock w (setTemperature (stateOf w) millicelsius) (stateOf w)
 
 abbrev pub lostOn : (w ram icons : List ℕ) → Option ℕ × (Nt7508 × (List ℕ × List ℕ))
 lostOn w ram icons = onBlock w (loseVolatile (stateOf w) ram icons) (stateOf w, (ram, icons))
@@ -117,5 +117,5 @@ pub record FoundFor (x : Nt7508) (low high : ℕ) (before : List ℕ) (result : 
 
 -- and where the block holds no state
 pub record FoundOn (w : List ℕ) (low high : ℕ) (before : List ℕ) (result : ℕ) (after : List ℕ) : Type 0 where
-  pub held : holdsState w ≡ true → FoundFor (stateOf w) low high before result after
+  pub of-state : holdsState w ≡ true → FoundFor (stateOf w) low high before result after
   pub refused : holdsState w ≡ false → (result ≡ 20) × (after ≡ before)

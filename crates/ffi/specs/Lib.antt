@@ -2,7 +2,7 @@
 pub mod ClockWords
 pub mod ControllerWords
 pub mod DriveWords
-pub mod QuickWords
+pub mod FastWords
 pub mod ScanWords
 pub mod SessionWords
 pub mod StateWords

@@ -19,7 +19,7 @@ refusalLine none = 0
 refusalLine (some at) = at .1
 
 -- what a call answers and what all that is lent holds after it
-pub record Told : Type 0 where
+pub record Answered : Type 0 where
   pub status : ℕ
   pub state : List ℕ
   pub ram : List ℕ
@@ -27,15 +27,15 @@ pub record Told : Type 0 where
   pub listing : List ℕ
   pub ended : List ℕ
 
-abbrev pub told : (status : ℕ) → (state ram icons listing ended : List ℕ) → Told
-told status state ram icons listing ended = record { status = status; state = state; ram = ram; icons = icons; listing = listing; ended = ended }
+abbrev pub answered : (status : ℕ) → (state ram icons listing ended : List ℕ) → Answered
+answered status state ram icons listing ended = record { status = status; state = state; ram = ram; icons = icons; listing = listing; ended = ended }
 
-abbrev pub answerWords : Answer → Told
+abbrev pub answerWords : Answer → Answered
 answerWords a =
-    told (refusalNumber (a .refusal)) (stateWords (a .machine .state)) (a .machine .ram) (a .machine .icons) (a .out)
+    answered (refusalNumber (a .refusal)) (stateWords (a .machine .state)) (a .machine .ram) (a .machine .icons) (a .out)
     (a .written ∷ refusalLine (a .refusal) ∷ [])
 
 -- a block of another length is refused with 20, and nothing that is lent changes
-unfoldable pub sessionOn : (text state ram icons listing ended : List ℕ) → Told
+unfoldable pub sessionOn : (text state ram icons listing ended : List ℕ) → Answered
 sessionOn text state ram icons listing ended =
-    cond (eqb (length state) 75) (answerWords (session text ram icons listing)) (told 20 state ram icons listing ended)
+    cond (eqb (length state) 75) (answerWords (session text ram icons listing)) (answered 20 state ram icons listing ended)

@@ -13,7 +13,7 @@ abbrev pub checkStatus : Option ℕ → ℕ
 checkStatus none = 0
 checkStatus (some n) = n
 
--- what lent memory that held `before` holds after the call, which puts its value there by `words`
+-- what lent memory with the bytes `before` has after the call, which puts its value there by `words`
 abbrev pub stored : {A B : Type 0} → (words : A → B) → ℕ ⊎ A → (before : B) → B
 stored words (inl n) before = before
 stored words (inr a) before = words a

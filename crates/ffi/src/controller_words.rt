@@ -12,8 +12,8 @@ ghost use Rattle.controller.specs.Update.{answeredUpdate};
 ghost use lib.Dec.{eqb};
 ghost use Rattle.ffi.specs.Words.{checkStatus};
 ghost use Rattle.ffi.specs.StateWords.{stateWords};
-ghost use Rattle.ffi.specs.ControllerWords.{parameterWords, eventWords, risingOn, shiftedOn, selectedOn, dataOn, suppliedOn, warmedOn, lostOn, metOn, updatedOn, restoredOn};
-use crate::quick_words::quick_byte;
+ghost use Rattle.ffi.specs.ControllerWords.{parameterWords, eventWords, risingOn, shiftedOn, selectedOn, dataOn, suppliedOn, temperatureOn, lostOn, metOn, updatedOn, restoredOn};
+use crate::fast_words::fast_byte;
 use crate::state_words::holds;
 use crate::state_words::put_state;
 use crate::state_words::state_of;
@@ -111,11 +111,11 @@ fn put_received(answer: Received, words: &mut [u64], event: &mut [u64; 8]) -> u6
 {
     let check = answer.check;
     let state = answer.state;
-    let told = answer.event;
+    let given = answer.event;
     match check {
         Check::Passed => {
             put_state(state, words);
-            *event = event_words(told);
+            *event = event_words(given);
             0
         }
         Check::Refused(refusal) => number_of(refusal),
@@ -199,7 +199,7 @@ pub extern "C" fn nt7508_controller_shift_in(
         seconds: seconds,
         fraction: fraction,
     };
-    if quick_byte(state, bits, count, moment, ram, icons, event) {
+    if fast_byte(state, bits, count, moment, ram, icons, event) {
         return 0;
     }
     let answer = state_of(state).shift_in(bits, count, moment, ram, icons);
@@ -254,8 +254,8 @@ pub extern "C" fn nt7508_controller_set_supply(
 
 #[no_mangle]
 pub extern "C" fn nt7508_controller_set_temperature(state: &mut [u64], millicelsius: i32) -> u64
-    ensures answers { λ r. ⌜ r ≡ checkStatus (warmedOn (now (state .entry)) millicelsius .0) ⌝ }
-    ensures leaves { λ _. ⌜ now (state .exit) ≡ unlessRefused (warmedOn (now (state .entry)) millicelsius .0) (stateWords (warmedOn (now (state .entry)) millicelsius .1)) (now (state .entry)) ⌝ }
+    ensures answers { λ r. ⌜ r ≡ checkStatus (temperatureOn (now (state .entry)) millicelsius .0) ⌝ }
+    ensures leaves { λ _. ⌜ now (state .exit) ≡ unlessRefused (temperatureOn (now (state .entry)) millicelsius .0) (stateWords (temperatureOn (now (state .entry)) millicelsius .1)) (now (state .entry)) ⌝ }
 {
     if !holds(state) {
         return NO_STATE;
@@ -304,7 +304,7 @@ pub extern "C" fn nt7508_controller_at_deadline(
     put_changed(answer, state)
 }
 
-// The scan kept as counted to a moment, and how many pieces that took.
+// The scan stays as counted to a moment, and how many pieces that took.
 #[no_mangle]
 pub extern "C" fn nt7508_controller_update(
     state: &mut [u64],
@@ -327,7 +327,7 @@ pub extern "C" fn nt7508_controller_update(
     put_updated(answer, state, pieces)
 }
 
-// A state that was kept elsewhere, with its RAM and icons, at a moment.
+// A state that was saved elsewhere, with its RAM and icons, at a moment.
 #[no_mangle]
 pub extern "C" fn nt7508_controller_restore(
     state: &mut [u64],

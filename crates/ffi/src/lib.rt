@@ -5,8 +5,8 @@
 pub mod clock_words;
 pub mod controller_words;
 pub mod drive_words;
+mod fast_words;
 pub mod look_words;
-mod quick_words;
 pub mod scan_words;
 pub mod session_words;
 mod state_words;

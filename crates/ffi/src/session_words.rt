@@ -3,7 +3,7 @@
 ghost use mathlib.Core.Path.{_≡_};
 ghost use mathlib.Core.List.{[], _∷_};
 ghost use Rattle.session.specs.Session.{number, refusedAt};
-ghost use Rattle.ffi.specs.SessionWords.{refusalNumber, refusalLine, told, sessionOn};
+ghost use Rattle.ffi.specs.SessionWords.{refusalNumber, refusalLine, answered, sessionOn};
 use crate::controller_words::NO_STATE;
 use crate::controller_words::number_of;
 use crate::state_words::put_state;
@@ -52,7 +52,7 @@ pub extern "C" fn nt7508_session(
     listing: &mut [u8],
     ended: &mut [u64; 2],
 ) -> u64
-    ensures { λ r. ⌜ told r (now (state .exit)) (now (ram .exit)) (now (icons .exit)) (now (listing .exit)) (now (ended .exit)) ≡ sessionOn (now (text .entry)) (now (state .entry)) (now (ram .entry)) (now (icons .entry)) (now (listing .entry)) (now (ended .entry)) ⌝ }
+    ensures { λ r. ⌜ answered r (now (state .exit)) (now (ram .exit)) (now (icons .exit)) (now (listing .exit)) (now (ended .exit)) ≡ sessionOn (now (text .entry)) (now (state .entry)) (now (ram .entry)) (now (icons .entry)) (now (listing .entry)) (now (ended .entry)) ⌝ }
 {
     if state.len() != 75 {
         return NO_STATE;

@@ -20,9 +20,9 @@ use Rattle.scan.specs.declared.check.Check.{Check}
 use Rattle.scan.specs.declared.check.Refusal.{Refusal}
 use Rattle.scan.specs.declared.drive.Conditions.{Conditions}
 use Rattle.scan.specs.declared.drive.Driven.{Driven}
-use Rattle.scan.specs.Check.{refused, answered, validSettings, checkMoment, checkLent, checkImage}
+use Rattle.scan.specs.Check.{refused, answered, validSettings, checkMoment, checkLent, checkImage, checkButClock}
 use Rattle.scan.specs.Count.{countTo, pieces, answeredCount, countScan}
-use Rattle.scan.specs.Closed.{checkButClock, countClock}
+use Rattle.scan.specs.Stretch.{countClock}
 use Rattle.scan.specs.Latch.{retained}
 use Rattle.scan.specs.Run.{stopped, resumed, updated, beforeByte, afterByte, fallScan, riseScan}
 use Rattle.scan.specs.Drive.{driveAt, frameAt, off, answeredDrive, driveScan}

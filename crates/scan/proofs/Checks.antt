@@ -16,10 +16,9 @@ use Rattle.clock.specs.Rate.{isLcd}
 use Rattle.clock.specs.Check.{validClock, checkClock}
 use Rattle.clock.proofs.Answers.{check-passed, check-valid}
 use Rattle.clock.specs.Time.{inRange}
-use Rattle.scan.specs.Check.{refused, linesOk, validSettings, frcCountOk, validFrame, pwmOk, validInversion, validScan, validRunning, checkScan, memoryOk, imageOk, inOrder, checkMoment, checkLent, checkImage}
+use Rattle.scan.specs.Check.{refused, linesOk, validSettings, frcCountOk, validFrame, pwmOk, validInversion, validScan, validRunning, checkScan, memoryOk, imageOk, inOrder, checkMoment, checkLent, checkImage, checkButClock}
 use Rattle.scan.specs.State.{rows, withTicking}
 use Rattle.scan.specs.Run.{stopped}
-use Rattle.scan.specs.Closed.{checkButClock}
 use Rattle.clock.specs.declared.time.Time.{Time}
 use Rattle.clock.specs.declared.edges.Clock.{Clock}
 use Rattle.scan.specs.declared.settings.Settings.{Settings}

@@ -20,7 +20,7 @@ use Rattle.scan.specs.Count.{dueAt, due, countFor, countTo}
 use Rattle.scan.specs.Latch.{shown}
 use Rattle.scan.specs.Quantum.{ticked, tickedTo, quantum}
 use Rattle.scan.proofs.Checks.{Valid, ValidSettings}
-use Rattle.scan.proofs.Kept.{quantum-valid}
+use Rattle.scan.proofs.ValidQuanta.{quantum-valid}
 use Rattle.scan.specs.declared.settings.Settings.{Settings}
 use Rattle.scan.specs.declared.state.Scan.{Scan}
 use Rattle.scan.specs.declared.state.ScanClock.{ScanClock}

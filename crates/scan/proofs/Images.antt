@@ -12,7 +12,8 @@ use lib.ListN.{length, getD, take, drop}
 use lib.Seq.{getD-take, getD-drop}
 use Rattle.checks.specs.Checks.{unlessRefused}
 use Rattle.scan.specs.Check.{checkImage}
-use Rattle.scan.specs.Closed.{rowBits, shownShade, levelsOf, rowLevel}
+use Rattle.scan.specs.Planes.{rowBits, shownShade}
+use Rattle.scan.specs.Paint.{levelsOf, rowLevel}
 use Rattle.scan.specs.Image.{upTo, rowsUpTo, litBy, cycleOf, widths, levelOf, glassCommon, lineOf, ramRowOf, pageLevel, ramLevel, pixel, imageRow, image, rendered}
 use Rattle.scan.specs.Settings.{pwmWidths, pwmOf, frcCountOf}
 use Rattle.scan.specs.Shade.{columnOf, planes, shadeOf, pulseWidth}

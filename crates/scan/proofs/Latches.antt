@@ -18,8 +18,9 @@ use Rattle.scan.specs.declared.settings.Settings.{Settings}
 use Rattle.scan.specs.declared.state.Scan.{Scan}
 use Rattle.scan.specs.declared.latch.DataPage.{DataPage}
 use Rattle.scan.specs.Check.{frcCountOk, validScan, checkScan}
-use Rattle.scan.specs.Closed.{rowBits, AreBits, shownShade, activeShades, rowActive, bitsAt, rowWords}
-use Rattle.scan.specs.Latch.{latchedRow, shadeActive, segmentActive, bit, word, words, presentLatch, shown, affects, keptLatch, retained}
+use Rattle.scan.specs.Planes.{rowBits, AreBits, shownShade}
+use Rattle.scan.specs.Segments.{activeShades, rowActive, bitsAt, rowWords}
+use Rattle.scan.specs.Latch.{latchedRow, shadeActive, segmentActive, bit, word, words, presentLatch, shown, affects, latchRetained, retained}
 use Rattle.scan.specs.Quantum.{quantum}
 use Rattle.scan.specs.Shade.{columnOf, planes, shadeOf, pageOf, shadeAt, pulseWidth}
 use Rattle.scan.specs.State.{withLatch}
@@ -167,8 +168,8 @@ unfolding presentLatch segmentActive shadeActive
 latch-alike s ram icons a = λ i. words (λ (k : ℕ). ltb (a .step i) (pulseWidth s (shadeAt s ram icons (row-alike a i) k) (a .frc i) (a .pwm i)))
 
 -- a byte outside a page leaves the page as it is
-page-kept : (ram : List ℕ) (at v page : ℕ) → (at / 256 ≡ page → ⊥) → pageOf (set ram at v) page ≡ pageOf ram page
-page-kept ram at v page ne = go (ltb at (page * 256)) refl
+page-same : (ram : List ℕ) (at v page : ℕ) → (at / 256 ≡ page → ⊥) → pageOf (set ram at v) page ≡ pageOf ram page
+page-same ram at v page ne = go (ltb at (page * 256)) refl
   where
     go : (t : Bool) → ltb at (page * 256) ≡ t → pageOf (set ram at v) page ≡ pageOf ram page
     go true h = ap (take 256) (drop-set-lt (page * 256) ram at v (ltb-true at (page * 256) h))
@@ -194,18 +195,18 @@ module _ (x : Scan) (s : Settings) (ram icons : List ℕ) where
           → cond icon (shadeOf s icons 0 k) (shadeOf s (pageOf (set ram at v) (latchedRow x / 8)) (latchedRow x % 8) k)
           ≡ cond icon (shadeOf s icons 0 k) (shadeOf s (pageOf ram (latchedRow x / 8)) (latchedRow x % 8) k)
       go true here q n k = refl
-      go false here q n k = ap (λ (part : List ℕ). shadeOf s part (latchedRow x % 8) k) (page-kept ram at v (latchedRow x / 8) (λ r. eqb-false (latchedRow x / 8) (page % 16) (q ∙ n) (sym r ∙ e)))
+      go false here q n k = ap (λ (part : List ℕ). shadeOf s part (latchedRow x % 8) k) (page-same ram at v (latchedRow x / 8) (λ r. eqb-false (latchedRow x / 8) (page % 16) (q ∙ n) (sym r ∙ e)))
 
   pub icon-outside : (at v : ℕ) → affects (DataPage.Page 16) (latchedRow x) ≡ false → shown x s ram (set icons at v) ≡ shown x s ram icons
   unfolding affects shadeAt
   icon-outside at v h = shown-by-row ram (set icons at v) (λ k. simp h)
 
-  -- where the latch is kept, no later memory or setting changes what is shown
+  -- where the latch is retained, no later memory or setting changes what is shown
   pub retained-holds : (page : DataPage) (s' : Settings) (ram' icons' : List ℕ) → affects page (latchedRow x) ≡ true → shown (retained x s page ram icons) s' ram' icons' ≡ shown x s ram icons
-  unfolding shown retained keptLatch withLatch
+  unfolding shown retained latchRetained withLatch
   retained-holds page s' ram' icons' h = rw h (go (x .latch .latched) refl)
     where
-      go : (t : Bool) → x .latch .latched ≡ t → shown (cond (t || false) x (keptLatch x s ram icons)) s' ram' icons' ≡ cond t (x .latch .segments) (presentLatch x s ram icons)
+      go : (t : Bool) → x .latch .latched ≡ t → shown (cond (t || false) x (latchRetained x s ram icons)) s' ram' icons' ≡ cond t (x .latch .segments) (presentLatch x s ram icons)
       go true k = simp k
       go false k = refl
 
@@ -213,26 +214,26 @@ module _ (x : Scan) (s : Settings) (ram icons : List ℕ) where
   unfolding retained
   unaffected page h = simp (h, or-true)
 
-  pub kept : (page : DataPage) → x .latch .latched ≡ false → affects page (latchedRow x) ≡ true → retained x s page ram icons ≡ keptLatch x s ram icons
+  pub retained-is : (page : DataPage) → x .latch .latched ≡ false → affects page (latchedRow x) ≡ true → retained x s page ram icons ≡ latchRetained x s ram icons
   unfolding retained
-  kept page l h = simp (l, h)
+  retained-is page l h = simp (l, h)
 
-  -- with the latch kept for a change, the change does not alter what is shown
-  change-kept : (page : DataPage) (ram' icons' : List ℕ) → (affects page (latchedRow x) ≡ false → shown x s ram' icons' ≡ shown x s ram icons) → shown (retained x s page ram icons) s ram' icons' ≡ shown x s ram icons
-  change-kept page ram' icons' outside = go (affects page (latchedRow x)) refl
+  -- with the latch retained for a change, the change does not alter what is shown
+  change-retained : (page : DataPage) (ram' icons' : List ℕ) → (affects page (latchedRow x) ≡ false → shown x s ram' icons' ≡ shown x s ram icons) → shown (retained x s page ram icons) s ram' icons' ≡ shown x s ram icons
+  change-retained page ram' icons' outside = go (affects page (latchedRow x)) refl
     where
       go : (a : Bool) → affects page (latchedRow x) ≡ a → shown (retained x s page ram icons) s ram' icons' ≡ shown x s ram icons
       go true h = retained-holds page s ram' icons' h
       go false h = rw (unaffected page h) (outside h)
 
   pub retained-shown : (page : DataPage) → shown (retained x s page ram icons) s ram icons ≡ shown x s ram icons
-  retained-shown page = change-kept page ram icons (λ h. refl)
+  retained-shown page = change-retained page ram icons (λ h. refl)
 
-  pub data-kept : (page at v : ℕ) → (page ≡ 16 → ⊥) → at / 256 ≡ page % 16 → shown (retained x s (DataPage.Page page) ram icons) s (set ram at v) icons ≡ shown x s ram icons
-  data-kept page at v ne e = change-kept (DataPage.Page page) (set ram at v) icons (data-outside page at v ne e)
+  pub data-retained : (page at v : ℕ) → (page ≡ 16 → ⊥) → at / 256 ≡ page % 16 → shown (retained x s (DataPage.Page page) ram icons) s (set ram at v) icons ≡ shown x s ram icons
+  data-retained page at v ne e = change-retained (DataPage.Page page) (set ram at v) icons (data-outside page at v ne e)
 
-  pub icon-kept : (at v : ℕ) → shown (retained x s (DataPage.Page 16) ram icons) s ram (set icons at v) ≡ shown x s ram icons
-  icon-kept at v = change-kept (DataPage.Page 16) ram (set icons at v) (icon-outside at v)
+  pub icon-retained : (at v : ℕ) → shown (retained x s (DataPage.Page 16) ram icons) s ram (set icons at v) ≡ shown x s ram icons
+  icon-retained at v = change-retained (DataPage.Page 16) ram (set icons at v) (icon-outside at v)
 
   -- a quantum latches anew: what is shown after it is the latch of present memory and settings
   pub quantum-shown : (s' : Settings) → shown (quantum x s') s ram icons ≡ presentLatch (quantum x s') s ram icons
@@ -241,10 +242,10 @@ module _ (x : Scan) (s : Settings) (ram icons : List ℕ) where
 
   -- keeping the latch leaves the counters, and so the checks of the scan
   pub retained-check : (page : DataPage) → checkScan (retained x s page ram icons) ≡ checkScan x
-  unfolding retained keptLatch withLatch checkScan validScan
+  unfolding retained latchRetained withLatch checkScan validScan
   retained-check page = go (x .latch .latched || not (affects page (latchedRow x)))
     where
-      go : (t : Bool) → checkScan (cond t x (keptLatch x s ram icons)) ≡ checkScan x
+      go : (t : Bool) → checkScan (cond t x (latchRetained x s ram icons)) ≡ checkScan x
       go true = refl
       go false = refl
 

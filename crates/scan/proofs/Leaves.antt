@@ -1,4 +1,4 @@
--- What a usual byte leaves of the scan as it is: whether its clock runs and the clock's period, the rate, and what the ends of rows and
+-- What a byte of the fast path leaves of the scan as it is: whether its clock runs and the clock's period, the rate, and what the ends of rows and
 -- frames take. Clock, counters and latch go on.
 use Prim.Native.Nat.{ℕ}
 use mathlib.Core.Bool.{Bool, true, false, cond, not, _||_}
@@ -14,9 +14,9 @@ use Rattle.scan.specs.declared.settings.Frame.{Frame}
 use Rattle.scan.specs.declared.state.Scan.{Scan}
 use Rattle.scan.specs.declared.state.ScanClock.{ScanClock}
 use Rattle.scan.specs.declared.latch.DataPage.{DataPage}
-use Rattle.scan.specs.Latch.{latchedRow, affects, keptLatch, retained}
+use Rattle.scan.specs.Latch.{latchedRow, affects, latchRetained, retained}
 use Rattle.scan.specs.State.{withLatch}
-use Rattle.scan.specs.Closed.{inversionOn, onward, rowsOn, movedOn}
+use Rattle.scan.specs.Fast.{inversionOn, onward, rowsOn, movedOn}
 
 -- the period of a clock that runs, as the clock holds it
 pub record Period : Type 0 where
@@ -50,9 +50,9 @@ moved-lasts x n runs =
     ap (λ (k : ScanClock). record { period = periodOf k; rate = x .ticking .rate; frame = x .frame; pwm = x .pwm; lines = x .inversion .lines }) (sym runs)
 
 pub retained-lasts : (x : Scan) (s : Settings) (page : DataPage) (ram icons : List ℕ) → lasting (retained x s page ram icons) ≡ lasting x
-unfolding retained keptLatch withLatch
+unfolding retained latchRetained withLatch
 retained-lasts x s page ram icons = go (x .latch .latched || not (affects page (latchedRow x)))
   where
-    go : (t : Bool) → lasting (cond t x (keptLatch x s ram icons)) ≡ lasting x
+    go : (t : Bool) → lasting (cond t x (latchRetained x s ram icons)) ≡ lasting x
     go true = refl
     go false = refl

@@ -6,7 +6,7 @@ mod Stages
 mod Stretches
 mod Rows
 pub mod Checks
-pub mod Kept
+pub mod ValidQuanta
 pub mod Counting
 mod Due
 pub mod Shades
@@ -16,7 +16,7 @@ pub mod Runs
 mod Packing
 mod Steady
 pub mod Leaves
-pub mod Usual
+pub mod FastPath
 pub mod Drives
-pub mod Held
+pub mod Agree
 pub mod Answers

@@ -10,7 +10,8 @@ use lib.Bits.{bitAnd, bitXor, and-le-l, and-block, xor-block}
 use lib.Dec.{eqb}
 use lib.ListN.{getD}
 use lib.Pow.{pow-mono}
-use Rattle.scan.specs.Closed.{AreBits, rowActive, inHigh, inLow, eightFrom, planesFrom, maskOf, pick, activeWord}
+use Rattle.scan.specs.Planes.{AreBits, inHigh, inLow, eightFrom, planesFrom}
+use Rattle.scan.specs.Segments.{rowActive, maskOf, pick, activeWord}
 use Rattle.scan.specs.Latch.{bit, word}
 use Rattle.scan.specs.Shade.{columnOf}
 use Rattle.scan.proofs.Latches.{word-lt}

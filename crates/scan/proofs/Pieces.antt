@@ -21,7 +21,8 @@ use Rattle.clock.proofs.Checks.{valid}
 use Rattle.clock.proofs.Laws.{earlier-in-range, moved-moved, edge-counted, counts-edge, edges-apart, edges-le}
 use Rattle.clock.proofs.Rates.{lcd-bounds, same-rate, same-refl}
 use Rattle.scan.specs.Check.{validScan, validRunning, checkScan}
-use Rattle.scan.specs.Closed.{quanta, tickedBy, inversionIn, endedRows, endedFrames, after, closed, limitIn, edgesIn}
+use Rattle.scan.specs.Closed.{quanta, tickedBy, inversionIn, endedRows, endedFrames, after, closed}
+use Rattle.scan.specs.Stretch.{limitIn, edgesIn}
 use Rattle.scan.specs.Count.{dueAt, due, countFor, countTo, rowSame, sameFrame, frameSame, rateSame, limitWith, pieceLimit, piece, piecesFor}
 use Rattle.scan.specs.Quantum.{ticked, tickedTo, quantum}
 use Rattle.scan.specs.Settings.{pwmOf, frameOf, rateOf}

@@ -28,11 +28,11 @@ use Rattle.scan.specs.State.{rows, withTicking, withInversion, withLatch
 use Rattle.scan.specs.Check.{linesOk, validSettings, validRunning, checkScan}
 use Rattle.scan.specs.Quantum.{rowEnds, countOn, inversionAfter, frameAfter, ticked, tickedTo, quantum}
 use Rattle.scan.specs.Count.{dueAt, due, countFor, countTo}
-use Rattle.scan.specs.Latch.{latchedRow, shown, affects, keptLatch, retained}
-use Rattle.scan.specs.Closed.{hasClock}
+use Rattle.scan.specs.Latch.{latchedRow, shown, affects, latchRetained, retained}
+use Rattle.scan.specs.Byte.{hasClock}
 use Rattle.scan.specs.Run.{runningAfter, noLines, cleared, taken, begun, stopped, startedIf, clocked, resumed, updated}
 use Rattle.scan.proofs.Checks.{Valid, InversionFits, ValidSettings, valid-scan, valid-check, valid-settings}
-use Rattle.scan.proofs.Kept.{pwm-pos, pwm-of-ok, frc-count-pos, frc-count-of-ok, frc-count-taken, rows-low, frame-of-fits, rate-lcd}
+use Rattle.scan.proofs.ValidQuanta.{pwm-pos, pwm-of-ok, frc-count-pos, frc-count-of-ok, frc-count-taken, rows-low, frame-of-fits, rate-lcd}
 use Rattle.scan.proofs.Counting.{count-none}
 use Rattle.scan.proofs.Latches.{latch-alike}
 
@@ -60,7 +60,7 @@ count-zero zero = inl refl
 count-zero (suc n) = inr (omega arith)
 
 pub begun-valid : (s : Settings) (ram icons : List ℕ) → ValidSettings s → Valid (begun s ram icons)
-unfolding begun keptLatch withLatch taken validRunning
+unfolding begun latchRetained withLatch taken validRunning
 begun-valid s ram icons vs = let f = frame-of-fits s vs in record {
   lcd = rate-lcd s vs (frameOf s) f;
   frame = f;
@@ -248,7 +248,7 @@ module _ (x : Scan) (s : Settings) (now : Time) (ram icons : List ℕ) where
   cleared-zero e = (ap (λ (i : Inversion). i .lines) (cleared-lines x s e), ap (λ (i : Inversion). i .count) (cleared-lines x s e))
 
   pub updated-quiet : (was runs : Bool) → Quiet (updated x s now (runningAfter was runs) ram icons) s runs
-  unfolding updated resumed begun keptLatch withLatch taken stopped withTicking hasClock
+  unfolding updated resumed begun latchRetained withLatch taken stopped withTicking hasClock
   updated-quiet true true = quiet-from (cleared x s) (λ e. cleared-zero e .0) (λ e. cleared-zero e .1)
   updated-quiet false true = quiet-from (begun s ram icons) (λ e. e) (λ e. refl)
   updated-quiet was false = record { clock = refl; lines = λ e. cleared-zero e .0; count = λ e. cleared-zero e .1 }
@@ -296,10 +296,10 @@ module _ (s : Settings) (runs : Bool) where
   count-to-quiet x now q = count-quiet (raw now + 1) x now q
 
   pub retained-quiet : (x : Scan) (page : DataPage) (ram icons : List ℕ) → Quiet x s runs → Quiet (retained x s page ram icons) s runs
-  unfolding retained keptLatch withLatch
+  unfolding retained latchRetained withLatch
   retained-quiet x page ram icons q = go (x .latch .latched || not (affects page (latchedRow x)))
     where
-      go : (t : Bool) → Quiet (cond t x (keptLatch x s ram icons)) s runs
+      go : (t : Bool) → Quiet (cond t x (latchRetained x s ram icons)) s runs
       go true = q
       go false = record { clock = q .clock; lines = q .lines; count = q .count }
 

@@ -9,7 +9,7 @@ use lib.Dec.{leb, ltb}
 use lib.ListN.{length, getD, List·getD-eq-default}
 use borrow.Author.Tests.{leb-true, lt-leb, ltb-true, ltb-false}
 use Rattle.scan.specs.declared.settings.Settings.{Settings}
-use Rattle.scan.specs.Closed.{rowBits, AreBits, planesIn}
+use Rattle.scan.specs.Planes.{rowBits, AreBits, planesIn}
 use Rattle.scan.specs.Image.{upTo}
 use Rattle.scan.specs.Shade.{bitOf, planes, paletteWidth, pulseWidth}
 use Rattle.scan.proofs.Rows.{length-upTo, getD-upTo}

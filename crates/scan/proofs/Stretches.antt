@@ -23,17 +23,18 @@ use Rattle.scan.specs.declared.settings.Settings.{Settings}
 use Rattle.scan.specs.declared.state.Scan.{Scan}
 use Rattle.scan.specs.declared.state.ScanClock.{ScanClock}
 use Rattle.scan.specs.declared.state.Ticking.{Ticking}
-use Rattle.scan.specs.declared.count.Run.{Run}
+use Rattle.scan.specs.declared.stretch.Run.{Run}
 use Rattle.scan.specs.Settings.{frameOf, rowsIn, rateOf}
 use Rattle.scan.specs.State.{rows, withTicking}
 use Rattle.scan.specs.Check.{validSettings, validScan, validRunning, checkScan}
 use Rattle.scan.specs.Quantum.{frameEnds, frameAfter, tickedTo, quantum}
 use Rattle.scan.specs.Count.{due, countTo, rateSame, rowSame, frameSame, limitWith, pieces}
-use Rattle.scan.specs.Closed.{quanta, tickedBy, closed, limitIn, edgesIn, rateStays, stretchLimit, stretch, tickedOn, InPieces, countClock}
+use Rattle.scan.specs.Closed.{quanta, tickedBy, closed}
+use Rattle.scan.specs.Stretch.{limitIn, edgesIn, rateStays, stretchLimit, stretch, tickedOn, InPieces, countClock}
 use Rattle.scan.proofs.Checks.{Valid, ValidSettings, valid-scan, valid-check, valid-settings, valid-of, check-by}
 use Rattle.scan.proofs.Counting.{count-quantum}
 use Rattle.scan.proofs.Due.{due-stopped, counted-none}
-use Rattle.scan.proofs.Kept.{rate-lcd, counters-valid, quantum-valid}
+use Rattle.scan.proofs.ValidQuanta.{rate-lcd, counters-valid, quantum-valid}
 use Rattle.scan.proofs.Pieces.{Steady, rate-settled, within, limit-pos, clock-next, due-at, due-is, steady-in, few, piece-quanta, pieces-none, asked-refused, asked-running, asked-check, asked-count, asked-moved, asked-few, asked-range}
 use Rattle.scan.proofs.Quanta.{quanta-add, quantum-counters, counters-on, counters-closed}
 use Rattle.scan.proofs.Stages.{at-most-four, pieces-next}

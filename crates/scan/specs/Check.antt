@@ -1,7 +1,7 @@
 -- Document 01, 'Where a call is turned down': the conditions of `validate` on settings and scan, the numbers of this crate's
 -- refusals, and the rows of the table that a call names, in the table's order.
 use Prim.Native.Nat.{ℕ}
-use mathlib.Core.Bool.{Bool, true, _&&_, _||_}
+use mathlib.Core.Bool.{Bool, true, cond, _&&_, _||_}
 use mathlib.Core.List.{List}
 use mathlib.Core.Option.{Option, none, some}
 use lib.Dec.{leb, ltb, eqb}
@@ -118,3 +118,12 @@ checkLent x settingsOk now ram icons =
 unfoldable pub checkImage : Settings → (ram icons : List ℕ) → (bytes : ℕ) → Option ℕ
 checkImage s ram icons bytes =
     inOrder (row 2 (memoryOk ram icons)) (row 8 (imageOk bytes)) none (row 3 (validSettings s)) none
+
+-- ---- no rules: for private functions of src/check.rt
+-- the refusal of a scan's check, by its number: 0 where it passes
+abbrev pub refusalOf : ℕ → Option ℕ
+refusalOf n = cond (eqb n 0) none (cond (eqb n 4) (some 4) (some 5))
+
+-- the checks of a call that takes a moment, but for the clock's, number 5
+unfoldable pub checkButClock : Scan → (settingsOk : Bool) → Time → Option ℕ
+checkButClock x settingsOk now = inOrder none none (row 1 (inRange now)) (row 3 settingsOk) (row 4 (validScan x))

@@ -1,4 +1,4 @@
--- Document 01, 'Scan': the latch of 128 segments, what is shown of it, and when it is kept.
+-- Document 01, 'Scan': the latch of 128 segments, what is shown of it, and when it is retained.
 use Prim.Native.Nat.{ℕ, zero, suc, _+_, _*_, _/_, _%_}
 use mathlib.Core.Bool.{Bool, true, cond, not, _&&_, _||_}
 use mathlib.Core.List.{List, [], _∷_}
@@ -37,7 +37,7 @@ words f = word f 0 64 ∷ word f 64 64 ∷ []
 unfoldable pub presentLatch : Scan → Settings → (ram icons : List ℕ) → List ℕ
 presentLatch x s ram icons = words (segmentActive x s ram icons)
 
--- what is shown: the latch that is kept, else that of present memory and settings
+-- what is shown: the latch that is retained, else that of present memory and settings
 unfoldable pub shown : Scan → Settings → (ram icons : List ℕ) → List ℕ
 shown x s ram icons = cond (x .latch .latched) (x .latch .segments) (presentLatch x s ram icons)
 
@@ -46,10 +46,10 @@ unfoldable pub affects : DataPage → (row : ℕ) → Bool
 affects DataPage.None row = true
 affects (DataPage.Page page) row = cond (eqb page 16) (eqb row 128) (not (eqb row 128) && eqb (row / 8) (page % 16))
 
--- the scan with the latch of present memory and settings kept
-unfoldable pub keptLatch : Scan → Settings → (ram icons : List ℕ) → Scan
-keptLatch x s ram icons = withLatch x (record { segments = presentLatch x s ram icons; latched = true })
+-- the scan with the latch of present memory and settings retained
+unfoldable pub latchRetained : Scan → Settings → (ram icons : List ℕ) → Scan
+latchRetained x s ram icons = withLatch x (record { segments = presentLatch x s ram icons; latched = true })
 
--- the latch is kept before a change that could alter the row being shown
+-- the latch is retained before a change (document 01: kept) that could alter the row being shown
 unfoldable pub retained : Scan → Settings → DataPage → (ram icons : List ℕ) → Scan
-retained x s page ram icons = cond (x .latch .latched || not (affects page (latchedRow x))) x (keptLatch x s ram icons)
+retained x s page ram icons = cond (x .latch .latched || not (affects page (latchedRow x))) x (latchRetained x s ram icons)

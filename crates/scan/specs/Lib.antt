@@ -1,4 +1,5 @@
--- The rules of document 01 for the scan, in its order. Closed holds no rule: only private contracts cite it.
+-- The rules of document 01 for the scan, in its order. Those from Closed on hold no rule: contracts of private functions cite
+-- them, in the file of their code's name.
 pub mod Settings
 pub mod State
 pub mod Check
@@ -9,5 +10,10 @@ pub mod Latch
 pub mod Run
 pub mod Drive
 pub mod Image
+pub mod Fast
 pub mod Closed
-pub mod Quick
+pub mod Stretch
+pub mod Planes
+pub mod Segments
+pub mod Paint
+pub mod Byte

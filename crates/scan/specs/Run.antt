@@ -1,5 +1,5 @@
 -- Document 01, 'Scan': what a byte, a warm rise or a fall does to the scan. A byte does two things: before it acts the scan is
--- counted and its latch kept where the byte could alter it; after it the inversion is cleared, the scan begun, its clock
+-- counted and its latch retained where the byte could alter it; after it the inversion is cleared, the scan begun, its clock
 -- started or dropped. A warm rise does the same but begins no scan, so that it reads no memory. A fall counts and drops the
 -- clock.
 use Prim.Native.Nat.{ℕ, _%_}
@@ -20,7 +20,7 @@ use Rattle.scan.specs.Settings.{pwmOf, frameOf, rowsIn, rateOf}
 use Rattle.scan.specs.State.{rows, withTicking, withInversion}
 use Rattle.scan.specs.Check.{validSettings, checkMoment, checkLent}
 use Rattle.scan.specs.Count.{countTo}
-use Rattle.scan.specs.Latch.{keptLatch, retained}
+use Rattle.scan.specs.Latch.{latchRetained, retained}
 
 -- what a byte does to the scan, by whether it ran before and runs after
 abbrev pub runningAfter : (was runs : Bool) → Running
@@ -49,7 +49,7 @@ taken s = record {
 
 -- the scan that a byte makes run: it takes every setting and latches
 unfoldable pub begun : Settings → (ram icons : List ℕ) → Scan
-begun s ram icons = keptLatch (taken s) s ram icons
+begun s ram icons = latchRetained (taken s) s ram icons
 
 -- a scan whose clock is dropped; the counters stay
 unfoldable pub stopped : Scan → Scan

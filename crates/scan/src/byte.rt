@@ -8,7 +8,7 @@ ghost use Rattle.clock.specs.Time.{inRange};
 ghost use Rattle.scan.specs.Check.{answered, validSettings, checkScan};
 ghost use Rattle.scan.specs.Latch.{retained as retainedOf};
 ghost use Rattle.scan.specs.Run.{updated as updatedOf, byteScan};
-ghost use Rattle.scan.specs.Closed.{hasClock, linesStay, settled as settledOf, steady as steadyOf};
+ghost use Rattle.scan.specs.Byte.{hasClock, linesStay, settled as settledOf, steady as steadyOf};
 use crate::check::Changed;
 use crate::check::Check;
 use crate::check::check_lent;
@@ -66,7 +66,7 @@ fn steady(scan: Scan, settings: Settings, page: DataPage, running: Running) -> b
     settled & (latch.latched | !affected(page, latched_row(scan)))
 }
 
-// A counted scan after a byte: its latch kept by the settings before it, then updated by those after
+// A counted scan after a byte: its latch retained by the settings before it, then updated by those after
 // it.
 fn altered(
     scan: Scan,
@@ -88,11 +88,11 @@ fn altered(
     if steady(scan, after, page, running) {
         return scan;
     }
-    let kept = retained(scan, before, page, ram, icons);
-    if settled(kept, after, running) {
-        return kept;
+    let next = retained(scan, before, page, ram, icons);
+    if settled(next, after, running) {
+        return next;
     }
-    updated(kept, after, moment, running, ram, icons)
+    updated(next, after, moment, running, ram, icons)
 }
 
 impl Scan {

@@ -3,8 +3,7 @@
 ghost use mathlib.Core.Path.{_≡_};
 ghost use mathlib.Core.Bool.{true};
 ghost use Rattle.checks.specs.Checks.{row, firstOf};
-ghost use Rattle.scan.specs.Check.{number, refused, linesOk, validSettings, validFrame, frcCountOk, pwmOk, validInversion, validScan, checkScan, memoryOk, imageOk, inOrder, checkMoment, checkLent, checkImage};
-ghost use Rattle.scan.specs.Closed.{refusalOf, checkButClock};
+ghost use Rattle.scan.specs.Check.{number, refused, linesOk, validSettings, validFrame, frcCountOk, pwmOk, validInversion, validScan, checkScan, memoryOk, imageOk, inOrder, checkMoment, checkLent, checkImage, refusalOf, checkButClock};
 use crate::settings::Frame;
 use crate::settings::Settings;
 use crate::settings::rows_in;

@@ -175,7 +175,7 @@ pub(crate) fn updated(
 }
 
 impl Scan {
-    // The scan as a byte has to find it: counted to its moment, and its latch kept where the byte
+    // The scan as a byte has to find it: counted to its moment, and its latch retained where the byte
     // could alter the row being shown.
     pub fn before_byte(
         self,

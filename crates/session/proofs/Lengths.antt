@@ -28,7 +28,7 @@ use Rattle.session.specs.declared.listing.Field.{Field}
 use Rattle.session.specs.declared.listing.Row.{Row}
 use Rattle.session.specs.declared.session.Ended.{Ended}
 use Rattle.session.specs.Text.{namesLine, startsWith, opens, longer, linesOf}
-use Rattle.session.specs.Line.{byteWord, dcWord, selectWord, supplyWord, tempWord, deadlineWord, updateWord, driveWord, upTo, valueAt, byteOf, dataOf, selectOf, supplyOf, warmOf, coldOf, temperatureAt, bareOf, lookOf, actionOf, lineWith, lineOf}
+use Rattle.session.specs.Line.{byteWord, dcWord, selectWord, supplyWord, tempWord, deadlineWord, updateWord, driveWord, upTo, valueAt, byteOf, dataOf, selectOf, supplyOf, aboveZero, belowZero, temperatureAt, bareOf, lookOf, actionOf, lineWith, lineOf}
 use Rattle.session.specs.Listing.{fieldText, commonField, invertedField, levelField, frameField, activeBelow, litOf, rowOf, driveLine, refusalLine, refusalText, listingNames}
 use Rattle.session.specs.Session.{Turn, Run, Answer, room, checkOf, waitOf, callOf, dueCall, shownOf, momentOf, turnOf, onward, runFrom, runOf, listing, laid, session, answered}
 
@@ -118,15 +118,15 @@ module _ (s : List ℕ) where
   supply-fair (Read.Number value next) = idle refl
   supply-fair Read.Malformed = idle refl
 
-  warm-fair : (r : Read) → Fair s (warmOf r)
+  above-fair : (r : Read) → Fair s (aboveZero r)
   unfolding ninety
-  warm-fair (Read.Number value next) = idle refl
-  warm-fair Read.Malformed = idle refl
+  above-fair (Read.Number value next) = idle refl
+  above-fair Read.Malformed = idle refl
 
-  cold-fair : (r : Read) → Fair s (coldOf r)
+  below-fair : (r : Read) → Fair s (belowZero r)
   unfolding ninety
-  cold-fair (Read.Number value next) = pick (eqb value 0) (idle refl) (idle refl)
-  cold-fair Read.Malformed = idle refl
+  below-fair (Read.Number value next) = pick (eqb value 0) (idle refl) (idle refl)
+  below-fair Read.Malformed = idle refl
 
   bare-fair : (a : Action) → ninety a ≡ 0 → (r : Read) → Fair s (bareOf a r)
   unfolding ninety
@@ -149,7 +149,7 @@ module _ (s : List ℕ) where
       (pick (startsWith s dcWord) (data-fair (valueAt s 3 1))
       (pick (startsWith s selectWord) (select-fair (valueAt s 7 1))
       (pick (startsWith s supplyWord) (supply-fair (valueAt s 7 65535))
-      (pick (startsWith s tempWord) (pick (eqb (getD s 5 0) 45) (cold-fair (valueAt s 6 2147483648)) (warm-fair (valueAt s 5 2147483647)))
+      (pick (startsWith s tempWord) (pick (eqb (getD s 5 0) 45) (below-fair (valueAt s 6 2147483648)) (above-fair (valueAt s 5 2147483647)))
       (pick (startsWith s deadlineWord) (bare-fair Action.Deadline refl (valueAt s 9 0))
       (pick (startsWith s updateWord) (bare-fair Action.Update refl (valueAt s 7 0))
       (pick (startsWith s driveWord) (drive-fair (fieldAt s 6 10) refl) (idle {a = Action.Malformed} refl))))))))

@@ -137,7 +137,7 @@ module _ (ok : Bool) (last : ℕ) (l : calls.Line) (m n : Machine) (w : Beside o
   made Action.Drive le h = by-call Action.Drive (Call.Drive now) refl le h
   made Action.Malformed le h = idle Action.Malformed refl
 
-  -- whether a line passes is told from the line and the lengths of memory
+  -- whether a line passes is passes-is from the line and the lengths of memory
   abbrev isNone : Option ℕ → Bool
   isNone none = true
   isNone (some number) = false
@@ -164,10 +164,10 @@ module _ (ok : Bool) (last : ℕ) (l : calls.Line) (m n : Machine) (w : Beside o
   good : checkState (m .state) ≡ none
   good = full-state ok last l m n w
 
-  told-deadline : (i : Bool) → inRange now ≡ i → isNone (firstOf (row 1 i) (refusalOf (dueCall (waitOf m) now) m)) ≡ i
+  passes-deadline : (i : Bool) → inRange now ≡ i → isNone (firstOf (row 1 i) (refusalOf (dueCall (waitOf m) now) m)) ≡ i
   unfolding dueCall reply atDeadline
-  told-deadline false e = refl
-  told-deadline true e = go (waitOf m)
+  passes-deadline false e = refl
+  passes-deadline true e = go (waitOf m)
     where
       ready : (t : Time) (b : Bool) → leb (raw t) (raw now) ≡ b → isNone (refusalOf (cond b (some (Call.Deadline t)) none) m) ≡ true
       ready t false h = refl
@@ -177,21 +177,21 @@ module _ (ok : Bool) (last : ℕ) (l : calls.Line) (m n : Machine) (w : Beside o
       go none = refl
       go (some t) = ready t (leb (raw t) (raw now)) refl
 
-  told : (a : Action) → isNone (checkOf m now a) ≡ passes ok now a
+  passes-is : (a : Action) → isNone (checkOf m now a) ≡ passes ok now a
   unfolding checkOf callOf passes accepted reply shiftIn commandData select setSupply setTemperature update driveOf
-  told (Action.Byte value) = ap isNone (group-alone (m .state) good (m .ram) (m .icons) (full-lengths ok last l m n w) value 8 now) ∙ grouped ok (inRange now) (groupOk value 8)
-  told (Action.Data on) = rw good (timed (inRange now))
-  told (Action.Select on) = rw good (timed (inRange now))
-  told (Action.Supply millivolts) = ap isNone (moment-alone (m .state) good now) ∙ single (inRange now)
-  told (Action.Temperature t) = rw good (timed (inRange now))
-  told Action.Deadline = told-deadline (inRange now) refl
-  told Action.Update = ap isNone (moment-alone (m .state) good now) ∙ single (inRange now)
-  told Action.Drive = ap isNone (lent-alone (m .state) good (m .ram) (m .icons) (full-lengths ok last l m n w) now) ∙ lent ok (inRange now)
-  told Action.Malformed = refl
+  passes-is (Action.Byte value) = ap isNone (group-alone (m .state) good (m .ram) (m .icons) (full-lengths ok last l m n w) value 8 now) ∙ grouped ok (inRange now) (groupOk value 8)
+  passes-is (Action.Data on) = rw good (timed (inRange now))
+  passes-is (Action.Select on) = rw good (timed (inRange now))
+  passes-is (Action.Supply millivolts) = ap isNone (moment-alone (m .state) good now) ∙ single (inRange now)
+  passes-is (Action.Temperature t) = rw good (timed (inRange now))
+  passes-is Action.Deadline = passes-deadline (inRange now) refl
+  passes-is Action.Update = ap isNone (moment-alone (m .state) good now) ∙ single (inRange now)
+  passes-is Action.Drive = ap isNone (lent-alone (m .state) good (m .ram) (m .icons) (full-lengths ok last l m n w) now) ∙ lent ok (inRange now)
+  passes-is Action.Malformed = refl
 
   passed-line : (a : Action) → passes ok now a ≡ true → turnOf (line a) m .refusal ≡ none
   unfolding turnOf
-  passed-line a h = go (checkOf m now a) (told a ∙ h)
+  passed-line a h = go (checkOf m now a) (passes-is a ∙ h)
     where
       go : (r : Option ℕ) → isNone r ≡ true → r ≡ none
       go none h = refl
@@ -199,7 +199,7 @@ module _ (ok : Bool) (last : ℕ) (l : calls.Line) (m n : Machine) (w : Beside o
 
   refused-line : (a : Action) → passes ok now a ≡ false → Stopped (turnOf (line a) m .refusal)
   unfolding turnOf
-  refused-line a h = go (checkOf m now a) (told a ∙ h)
+  refused-line a h = go (checkOf m now a) (passes-is a ∙ h)
     where
       go : (r : Option ℕ) → isNone r ≡ false → Stopped r
       go none h = absurd (false≢true (sym h))

@@ -66,16 +66,16 @@ supplyOf (Read.Number value next) = Action.Supply value
 supplyOf Read.Malformed = Action.Malformed
 
 -- `temp` signed 32-bit; minus stands below 0 only
-abbrev pub warmOf : Read → Action
-warmOf (Read.Number value next) = Action.Temperature (pos value)
-warmOf Read.Malformed = Action.Malformed
+abbrev pub aboveZero : Read → Action
+aboveZero (Read.Number value next) = Action.Temperature (pos value)
+aboveZero Read.Malformed = Action.Malformed
 
-abbrev pub coldOf : Read → Action
-coldOf (Read.Number value next) = cond (eqb value 0) Action.Malformed (Action.Temperature (negℤ (pos value)))
-coldOf Read.Malformed = Action.Malformed
+abbrev pub belowZero : Read → Action
+belowZero (Read.Number value next) = cond (eqb value 0) Action.Malformed (Action.Temperature (negℤ (pos value)))
+belowZero Read.Malformed = Action.Malformed
 
 unfoldable pub temperatureAt : List ℕ → (at : ℕ) → (after : ℕ) → Action
-temperatureAt s at after = cond (eqb (getD s at 0) 45) (coldOf (valueAt s after 2147483648)) (warmOf (valueAt s at 2147483647))
+temperatureAt s at after = cond (eqb (getD s at 0) 45) (belowZero (valueAt s after 2147483648)) (aboveZero (valueAt s at 2147483647))
 
 -- `deadline`, `update`, `drive` with 0
 abbrev pub bareOf : Action → Read → Action

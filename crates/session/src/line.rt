@@ -4,7 +4,7 @@ ghost use Prim.Native.Nat.{_≤_};
 ghost use lib.Dec.{eqb};
 ghost use lib.IntN.{pos, negℤ};
 ghost use lib.ListN.{getD};
-ghost use Rattle.session.specs.Line.{upTo, valueAt, byteOf, dataOf, selectOf, supplyOf, warmOf, coldOf, temperatureAt, bareOf, lookOf, actionOf, lineOf};
+ghost use Rattle.session.specs.Line.{upTo, valueAt, byteOf, dataOf, selectOf, supplyOf, aboveZero, belowZero, temperatureAt, bareOf, lookOf, actionOf, lineOf};
 ghost use Rattle.session.specs.Closed.{NumberUpTo};
 use crate::text::starts;
 use decimal::Read;
@@ -89,9 +89,9 @@ fn supply_of(read: Read) -> Action
 }
 
 // A temperature from 0 up.
-fn warm_of(read: Read) -> Action
+fn above_zero(read: Read) -> Action
     requires { ⌜ NumberUpTo 2147483647 read ⌝ }
-    ensures { λ r. ⌜ r ≡ warmOf read ⌝ }
+    ensures { λ r. ⌜ r ≡ aboveZero read ⌝ }
 {
     let Read::Number { value, next: _ } = read else {
         return Action::Malformed;
@@ -108,9 +108,9 @@ fn negative(value: u64) -> i32
 }
 
 // One below 0, behind its minus.
-fn cold_of(read: Read) -> Action
+fn below_zero(read: Read) -> Action
     requires { ⌜ NumberUpTo 2147483648 read ⌝ }
-    ensures { λ r. ⌜ r ≡ coldOf read ⌝ }
+    ensures { λ r. ⌜ r ≡ belowZero read ⌝ }
 {
     let Read::Number { value, next: _ } = read else {
         return Action::Malformed;
@@ -135,9 +135,9 @@ fn temperature_of(s: &[u8]) -> Action
     ensures { λ r. ⌜ r ≡ temperatureAt (now (s .entry)) 5 6 ⌝ }
 {
     if minus(s) {
-        return cold_of(value_at(s, 6, 2147483648));
+        return below_zero(value_at(s, 6, 2147483648));
     }
-    warm_of(value_at(s, 5, 2147483647))
+    above_zero(value_at(s, 5, 2147483647))
 }
 
 // A word whose value is 0.

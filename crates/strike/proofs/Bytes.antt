@@ -15,9 +15,9 @@ use Rattle.scan.specs.Latch.{retained}
 use Rattle.scan.specs.Run.{runningAfter, updated}
 use Rattle.scan.specs.Drive.{runs}
 use Rattle.scan.proofs.Checks as scans
-use Rattle.scan.specs.Closed.{hasClock}
+use Rattle.scan.specs.Byte.{hasClock}
 use Rattle.scan.proofs.Runs.{Quiet, updated-same, updated-quiet, count-to-quiet, retained-quiet}
-use Rattle.scan.proofs.Held.{Agree, held, agree-retained, command-same, data-agree}
+use Rattle.scan.proofs.Agree.{Agree, asShown, agree-retained, command-same, data-agree}
 use Rattle.controller.specs.declared.state.Nt7508.{Nt7508}
 use Rattle.controller.specs.declared.event.Store.{Store}
 use Rattle.controller.specs.declared.event.Stepped.{Stepped}
@@ -28,7 +28,7 @@ use Rattle.controller.specs.Command.{acted}
 use Rattle.controller.specs.Byte.{conditionsOf, pageSent, dataStep, stepOf, byteTaken}
 use Rattle.controller.specs.Bits.{withBits}
 use Rattle.controller.specs.Look.{endOf}
-use Rattle.controller.proofs.Bytes.{step-kept}
+use Rattle.controller.proofs.Bytes.{step-leaves}
 use Rattle.controller.proofs.Parts.{isAwaiting, scanAfter, besideScan, step-scan, byte-parts, step-awaiting, step-data, step-stores, step-idle, store-outside}
 use Rattle.strike.specs.Line.{Line, value, takes, past}
 
@@ -74,7 +74,7 @@ module _ (c : Nt7508) (v : ℕ) (now : Time) (ram icons : List ℕ) where
   -- no bits are under way after it
   based : withSerial (step .state) (withBits (step .state .serial) 0 0) ≡ step .state
   unfolding withSerial
-  based = let k = step-kept base v now in λ i. withSerial (step .state) (withBits (step .state .serial) (sym (k .shift) i) (sym (k .bits) i))
+  based = let k = step-leaves base v now in λ i. withSerial (step .state) (withBits (step .state .serial) (sym (k .shift) i) (sym (k .bits) i))
 
   pub byte-on : (x : Scan) → byteTaken (stateOf c [] x) v now ram icons ≡ record { state = stateOf (step .state) [] (onward step (before x)); event = step .event; store = step .store }
   unfolding stateOf value withScan withSerial scanAfter
@@ -92,7 +92,7 @@ module _ (c : Nt7508) (v : ℕ) (now : Time) (ram icons : List ℕ) where
     -- the registers stay tied to the line past the byte
     tied-past : Tied (past l v) (step .state)
     unfolding past withSerial
-    tied-past = let k = step-kept base v now in let t = a .tied in record {
+    tied-past = let k = step-leaves base v now in let t = a .tied in record {
       selected = k .selected ∙ t .selected;
       isData = k .«data» ∙ t .isData;
       awaiting = step-awaiting base v now ∙ ap₂ (λ (d w : Bool). cond d w (not w && awaits v)) (t .isData) (t .awaiting);
@@ -129,10 +129,10 @@ module _ (c : Nt7508) (v : ℕ) (now : Time) (ram icons : List ℕ) where
         let page = ap (λ (t : Bool). cond t (DataPage.Page (c .address .page)) DataPage.None) d in
         let m = ramAfter (sent .store) ram in
         let n = iconsAfter (sent .store) icons in
-        ap (λ (z : Scan). held (countTo z (c .display) now) (c .display) m n)
+        ap (λ (z : Scan). asShown (countTo z (c .display) now) (c .display) m n)
         (sent-same (before x) (before-quiet x (q .0)) ∙ ap (λ (p : DataPage). retained (countTo x (c .display) now) (c .display) p ram icons) page)
         ∙ data-agree (c .display) ram icons vs now i x y vx vy (a .agree) (DataPage.Page (c .address .page)) m n (λ z h. store-outside (c .address) v z (c .display) ram icons h)
-        ∙ sym (ap (λ (z : Scan). held (countTo z (c .display) now) (c .display) m n)
+        ∙ sym (ap (λ (z : Scan). asShown (countTo z (c .display) now) (c .display) m n)
         (sent-same (before y) (before-quiet y (q .1)) ∙ ap (λ (p : DataPage). retained (countTo y (c .display) now) (c .display) p ram icons) page))
 
     agree-past : Agree (onward step (before x)) (onward step (before y)) (step .state .display) now (ramAfter (step .store) ram) (iconsAfter (step .store) icons)
@@ -141,7 +141,7 @@ module _ (c : Nt7508) (v : ℕ) (now : Time) (ram icons : List ℕ) where
       where
         go : (d : Bool) → c .serial .«data» ≡ d → Agree (onward step (before x)) (onward step (before y)) (step .state .display) now (ramAfter (step .store) ram) (iconsAfter (step .store) icons)
         go false d =
-            ap (λ (z : Scan). held (countTo (onward step z) (step .state .display) now) (step .state .display) (ramAfter (step .store) ram) (iconsAfter (step .store) icons)) (before-same d)
+            ap (λ (z : Scan). asShown (countTo (onward step z) (step .state .display) now) (step .state .display) (ramAfter (step .store) ram) (iconsAfter (step .store) icons)) (before-same d)
         go true d =
             subst⁻¹ (λ (s : Stepped). Agree (onward s (before x)) (onward s (before y)) (s .state .display) now (ramAfter (s .store) ram) (iconsAfter (s .store) icons))
             (step-data base v now d) (agree-sent d)

@@ -14,9 +14,9 @@ use Rattle.scan.specs.State as scan
 use Rattle.scan.specs.Count.{countTo}
 use Rattle.scan.specs.Drive.{runs}
 use Rattle.scan.proofs.Checks as scans
-use Rattle.scan.specs.Closed.{hasClock}
+use Rattle.scan.specs.Byte.{hasClock}
 use Rattle.scan.proofs.Runs.{count-to-quiet}
-use Rattle.scan.proofs.Held.{no-clock, agree-both, agree-counted}
+use Rattle.scan.proofs.Agree.{no-clock, agree-both, agree-counted}
 use Rattle.scan.proofs.Drives.{counted-passes}
 use Rattle.controller.specs.declared.state.Nt7508.{Nt7508}
 use Rattle.controller.specs.declared.state.Power.{Power}

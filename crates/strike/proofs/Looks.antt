@@ -11,7 +11,7 @@ use Rattle.clock.specs.Time.{raw, inRange}
 use Rattle.scan.specs.declared.drive.LcdDrive.{LcdDrive}
 use Rattle.scan.specs.Drive.{driven, driveAt, frameAt, off}
 use Rattle.scan.specs.Image.{image}
-use Rattle.scan.proofs.Held.{agree-drive}
+use Rattle.scan.proofs.Agree.{agree-drive}
 use Rattle.scan.proofs.Drives.{drive-alike, frame-alike}
 use Rattle.controller.specs.declared.state.Nt7508.{Nt7508}
 use Rattle.controller.specs.State.{withScan, withSerial}

@@ -13,7 +13,7 @@ use Rattle.clock.specs.declared.time.Time.{Time}
 use Rattle.clock.specs.Time.{raw, inRange}
 use Rattle.scan.specs.declared.state.Scan.{Scan}
 use Rattle.scan.specs.Check.{memoryOk}
-use Rattle.scan.proofs.Held.{Agree, agree-later}
+use Rattle.scan.proofs.Agree.{Agree, agree-later}
 use Rattle.controller.specs.declared.state.Nt7508.{Nt7508}
 use Rattle.controller.specs.declared.state.Pending.{Pending}
 use Rattle.controller.specs.declared.event.Stepped.{Stepped}

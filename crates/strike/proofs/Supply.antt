@@ -14,7 +14,7 @@ use Rattle.scan.specs.Count.{countTo}
 use Rattle.scan.specs.Run.{stopped, resumed}
 use Rattle.scan.specs.Drive.{runs}
 use Rattle.scan.proofs.Runs.{resumed-quiet, power-on-quiet, stopped-clock}
-use Rattle.scan.proofs.Held.{agree-stopped, agree-resumed}
+use Rattle.scan.proofs.Agree.{agree-stopped, agree-resumed}
 use Rattle.controller.specs.declared.state.Nt7508.{Nt7508}
 use Rattle.controller.specs.declared.state.Ready.{Ready}
 use Rattle.controller.specs.State.{powerOn, withScan, withPower, withSerial}

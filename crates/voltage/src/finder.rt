@@ -6,10 +6,10 @@ ghost use Rattle.voltage.specs.Finder.{inBand, Says};
 use crate::Refusal;
 use crate::Settings;
 use crate::target::base_of;
+use crate::target::extended;
 use crate::target::gain_of;
 use crate::target::microvolts_of;
 use crate::target::temperature_factor;
-use crate::target::wide;
 
 // The answer to `find_setting`: a pair in the band, or that there is none, or why it was turned down.
 pub enum Found {
@@ -24,21 +24,21 @@ fn in_band(low: u32, high: u32, scaled: u64, base: u64, contrast: u8) -> bool
     requires { ⌜ (scaled < 2 ^ 49) × ((base ≤ 154) × (contrast < 64)) ⌝ }
     ensures { λ r. ⌜ r ≡ inBand low high (rounded (scaled * (base + contrast))) ⌝ }
 {
-    let v = microvolts_of(scaled, base + wide(contrast));
+    let v = microvolts_of(scaled, base + extended(contrast));
     (low <= v) & (v <= high)
 }
 
 // t x gain at a pair: what the pair before left, or computed where the regulator setting changes.
-fn scaled_at(factor: u64, pair: u16, held: u64) -> u64
+fn scaled_at(factor: u64, pair: u16, before: u64) -> u64
     requires { ⌜ (factor < 2 ^ 38) × (pair < 512) ⌝ }
-    requires { ⌜ ((pair % 64 ≡ 0 → ⊥) → held ≡ factor * gain (pair / 64)) ⌝ }
+    requires { ⌜ ((pair % 64 ≡ 0 → ⊥) → before ≡ factor * gain (pair / 64)) ⌝ }
     ensures { λ r. ⌜ r ≡ factor * gain (pair / 64) ⌝ }
 {
     let contrast = pair % 64;
     if contrast == 0 {
         return factor * gain_of((pair / 64) as u8);
     }
-    held
+    before
 }
 
 // A regulator and contrast setting whose target under this temperature and the other settings lies

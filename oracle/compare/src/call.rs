@@ -28,7 +28,7 @@ pub enum Call {
     Temperature(i32),
     Lose,
     AtDeadline,
-    /// The scan kept as counted to the moment, which the original does not have.
+    /// The scan stays as counted to the moment, which the original does not have.
     Update,
     Restore,
     Drive,

@@ -95,7 +95,7 @@ impl Tally {
                 "scans counted",
                 from.is_some() && to.is_some() && from != to,
             );
-            came("latches kept", set(LATCHED) == (0, 1));
+            came("latches retained", set(LATCHED) == (0, 1));
         }
         let (was, is) = (SUPPLIED.get(before), SUPPLIED.get(after));
         let cold = COLD.get(before) == 1 || matches!(step.call, Call::Supply(0));

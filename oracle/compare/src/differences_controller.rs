@@ -59,7 +59,7 @@ fn serial() -> Vec<Difference> {
     };
     vec![
         called(
-            "shift_in: 7 bits held, 9 bits 0 (without overflow checks Ok)",
+            "shift_in: 7 bits under way, 9 bits 0 (without overflow checks Ok)",
             with("bits", &[7]),
             (group(0, 9), 0),
             |mut state| state.shift_in(0, 9, 0),

@@ -89,7 +89,7 @@ fn serial() -> Vec<Finding> {
     };
     vec![
         Finding {
-            input: "shift_in: 7 bits held, then 9 bits 0 (without overflow checks Ok)",
+            input: "shift_in: 7 bits under way, then 9 bits 0 (without overflow checks Ok)",
             came: outcome(|| with("bits", &[7]).shift_in(0, 9, 0)),
             found: "panic: attempt to shift right with overflow",
         },

@@ -307,7 +307,7 @@ fn latch(state: &Controller, scan: &Scan) -> [u64; 2] {
     segments
 }
 
-/// The kept latch, unless a quantum has latched anew since.
+/// The retained latch, unless a quantum has latched anew since.
 fn segments(state: &Controller, scan: &Scan, quanta: u64) -> [u64; 2] {
     if quanta != 0 || !mark(state, "scan.latched") {
         return latch(state, scan);

@@ -9,10 +9,10 @@ use Rattle.controller.proofs.command.column_back.Tie as tie
 
 none-saved : (a : Address) → a .«saved_column» ≡ SavedColumn.None → a ≡ addressAfter a 238
 unfolding columnOr addressAfter
-none-saved a h = λ i. record { page = a .page; «column_byte» = kept i; «saved_column» = h i }
+none-saved a h = λ i. record { page = a .page; «column_byte» = same-column i; «saved_column» = h i }
   where
-    kept : a .«column_byte» ≡ columnOr (a .«saved_column») (a .«column_byte»)
-    kept = simp h
+    same-column : a .«column_byte» ≡ columnOr (a .«saved_column») (a .«column_byte»)
+    same-column = simp h
 
 returns-2 : tie.Need-returns-2
 unfolding columnOr addressAfter

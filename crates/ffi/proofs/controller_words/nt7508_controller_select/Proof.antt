@@ -1,6 +1,6 @@
 -- `ffi::controller_words::nt7508_controller_select` meets its contract.
 use Rattle.checks.proofs.Tests.{failed, passed}
-use Rattle.ffi.proofs.Held.{held-length, changed-on}
+use Rattle.ffi.proofs.OnBlock.{block-length, changed-on}
 use borrow.Author.Needs.{needs}
 use Rattle.ffi.proofs.controller_words.nt7508_controller_select.Statement.{statement}
 use Rattle.ffi.proofs.controller_words.nt7508_controller_select.Tie as tie
@@ -23,8 +23,8 @@ nt7508-controller-select-spec =
     (λ c κs. search needs)
     (λ c. search needs)
     returns
-    (λ c κs. held-length _ (passed (c .before .before .holds .ensures) (c .before .if1 .left)))
+    (λ c κs. block-length _ (passed (c .before .before .holds .ensures) (c .before .if1 .left)))
     (λ c κs. search needs)
-    (λ c κs. held-length _ (passed (c .before .before .before .before .before .holds .ensures) (c .before .before .before .before .if1 .left)))
+    (λ c κs. block-length _ (passed (c .before .before .before .before .before .holds .ensures) (c .before .before .before .before .if1 .left)))
     (λ c. search needs)
     returns-2)

@@ -2,7 +2,7 @@
 use mir.Facts.{toZ-ofZ}
 use mir.Syntax.{w32}
 use Rattle.checks.proofs.Tests.{failed, passed}
-use Rattle.ffi.proofs.Held.{held-length, changed-on}
+use Rattle.ffi.proofs.OnBlock.{block-length, changed-on}
 use borrow.Author.Needs.{needs}
 use Rattle.ffi.proofs.controller_words.nt7508_controller_set_temperature.Statement.{statement}
 use Rattle.ffi.proofs.controller_words.nt7508_controller_set_temperature.Tie as tie
@@ -26,8 +26,8 @@ nt7508-controller-set-temperature-spec =
     (λ c κs. search needs)
     (λ c. search needs)
     returns
-    (λ c κs. held-length _ (passed (c .before .before .holds .ensures) (c .before .if1 .left)))
+    (λ c κs. block-length _ (passed (c .before .before .holds .ensures) (c .before .if1 .left)))
     (λ c κs. search needs)
-    (λ c κs. held-length _ (passed (c .before .before .before .before .before .holds .ensures) (c .before .before .before .before .if1 .left)))
+    (λ c κs. block-length _ (passed (c .before .before .before .before .before .holds .ensures) (c .before .before .before .before .if1 .left)))
     (λ c. search needs)
     returns-2)

@@ -7,7 +7,7 @@ use Rattle.checks.proofs.Tests.{failed, passed}
 use Rattle.clock.specs.declared.time.Time.{Time}
 use Rattle.ffi.specs.ControllerWords.{deadlineWords}
 use Rattle.ffi.specs.Words.{status, stored}
-use Rattle.ffi.proofs.Held.{held-length, held-answer}
+use Rattle.ffi.proofs.OnBlock.{block-length, answer-on-block}
 use borrow.Author.Needs.{needs}
 use Rattle.ffi.proofs.look_words.nt7508_controller_deadline.Statement.{statement}
 use Rattle.ffi.proofs.look_words.nt7508_controller_deadline.Tie as tie
@@ -24,7 +24,7 @@ returns-2 c =
     let at-if1 = at-state-of .before in
     let start = at-if1 .before .before .before in
     let holds = passed (at-if1 .before .holds .ensures) (at-if1 .if1 .left) in
-    let by = held-answer (start .args .state .now) holds (simp (at-state-of .state-of .ensures) at (at-call .deadline .ensures)) in
+    let by = answer-on-block (start .args .state .now) holds (simp (at-state-of .state-of .ensures) at (at-call .deadline .ensures)) in
     let put = c .put-deadline .ensures in
     (put .0 ∙ ap status by, put .1 ∙ ap (λ (r : ℕ ⊎ Option Time). stored deadlineWords r (start .args .out .now)) by)
 
@@ -34,7 +34,7 @@ nt7508-controller-deadline-spec =
     (tie.spec
     (λ c κs. search needs)
     returns
-    (λ c κs. held-length _ (passed (c .before .holds .ensures) (c .if1 .left)))
+    (λ c κs. block-length _ (passed (c .before .holds .ensures) (c .if1 .left)))
     (λ c κs. search needs)
     (λ c κs. search needs)
     returns-2)

@@ -6,7 +6,7 @@ use Rattle.scan.specs.declared.drive.LcdDrive.{LcdDrive}
 use Rattle.scan.specs.Drive.{off}
 use Rattle.ffi.specs.DriveWords.{driveWords}
 use Rattle.ffi.proofs.Answers.{status-by, left-by}
-use Rattle.ffi.proofs.Held.{held-length, held}
+use Rattle.ffi.proofs.OnBlock.{block-length, on-block}
 use borrow.Author.Needs.{needs}
 use Rattle.ffi.proofs.look_words.nt7508_controller_drive.Statement.{statement}
 use Rattle.ffi.proofs.look_words.nt7508_controller_drive.Tie as tie
@@ -23,7 +23,7 @@ returns-2 c =
     let at-if1 = at-state-of .before in
     let start = at-if1 .before .before .before .before .before in
     let holds = passed (at-if1 .before .holds .ensures) (at-if1 .if1 .left) in
-    let by = held (start .args .state .now) holds (simp (at-state-of .state-of .ensures) at (at-call .drive .ensures)) (off, 0) in
+    let by = on-block (start .args .state .now) holds (simp (at-state-of .state-of .ensures) at (at-call .drive .ensures)) (off, 0) in
     let put = c .put-drive .ensures in
     (put .0 ∙ status-by by, (put .1 .0 ∙ left-by (λ (d : LcdDrive × ℕ). driveWords (d .0)) by _, put .1 .1 ∙ left-by (λ (d : LcdDrive × ℕ). d .1) by _))
 
@@ -33,7 +33,7 @@ nt7508-controller-drive-spec =
     (tie.spec
     (λ c κs. search needs)
     returns
-    (λ c κs. held-length _ (passed (c .before .holds .ensures) (c .if1 .left)))
+    (λ c κs. block-length _ (passed (c .before .holds .ensures) (c .if1 .left)))
     (λ c κs. search needs)
     (λ c κs. search needs)
     returns-2)

@@ -2,7 +2,7 @@
 use mathlib.Core.Bool.{false≢true}
 use mathlib.Core.Path.{refl, sym, _∙_}
 use Rattle.checks.proofs.Tests.{failed, passed}
-use Rattle.ffi.proofs.Held.{held-length}
+use Rattle.ffi.proofs.OnBlock.{block-length}
 use borrow.Author.Needs.{needs}
 use Rattle.ffi.proofs.look_words.nt7508_controller_find_setting.Statement.{statement}
 use Rattle.ffi.proofs.look_words.nt7508_controller_find_setting.Tie as tie
@@ -10,7 +10,7 @@ use Rattle.ffi.proofs.look_words.nt7508_controller_find_setting.Tie as 
 returns : tie.Need-returns
 returns c =
     let no-state = failed (c .before .holds .ensures) (c .if1 .taken) in
-    record { held = λ holds. absurd (false≢true (sym no-state ∙ holds)); refused = λ _. (refl, refl) }
+    record { of-state = λ holds. absurd (false≢true (sym no-state ∙ holds)); refused = λ _. (refl, refl) }
 
 returns-2 : tie.Need-returns-2
 returns-2 c =
@@ -19,7 +19,7 @@ returns-2 c =
     let at-if1 = at-state-of .before in
     let holds = passed (at-if1 .before .holds .ensures) (at-if1 .if1 .left) in
     record {
-      held = λ _. record {
+      of-state = λ _. record {
         found = at-call .find-setting .result;
         says = simp (at-state-of .state-of .ensures) at (at-call .find-setting .ensures);
         answers = c .put-found .ensures .0;
@@ -34,7 +34,7 @@ nt7508-controller-find-setting-spec =
     (tie.spec
     (λ c κs. search needs)
     returns
-    (λ c κs. held-length _ (passed (c .before .holds .ensures) (c .if1 .left)))
+    (λ c κs. block-length _ (passed (c .before .holds .ensures) (c .if1 .left)))
     (λ c κs. search needs)
     (λ c κs. search needs)
     returns-2)

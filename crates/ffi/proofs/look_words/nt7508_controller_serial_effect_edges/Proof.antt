@@ -4,7 +4,7 @@ use mathlib.Core.Logic.{_⊎_}
 use mathlib.Core.Path.{ap, _∙_}
 use Rattle.checks.proofs.Tests.{failed, passed}
 use Rattle.ffi.specs.Words.{status, stored}
-use Rattle.ffi.proofs.Held.{held-length, held-answer}
+use Rattle.ffi.proofs.OnBlock.{block-length, answer-on-block}
 use borrow.Author.Needs.{needs}
 use Rattle.ffi.proofs.look_words.nt7508_controller_serial_effect_edges.Statement.{statement}
 use Rattle.ffi.proofs.look_words.nt7508_controller_serial_effect_edges.Tie as tie
@@ -21,7 +21,7 @@ returns-2 c =
     let at-if1 = at-state-of .before in
     let start = at-if1 .before .before .before in
     let holds = passed (at-if1 .before .holds .ensures) (at-if1 .if1 .left) in
-    let by = held-answer (start .args .state .now) holds (simp (at-state-of .state-of .ensures) at (at-call .serial-effect-edges .ensures)) in
+    let by = answer-on-block (start .args .state .now) holds (simp (at-state-of .state-of .ensures) at (at-call .serial-effect-edges .ensures)) in
     let put = c .put-edges .ensures in
     (put .0 ∙ ap status by, put .1 ∙ ap (λ (r : ℕ ⊎ ℕ). stored (λ (n : ℕ). n) r (start .args .out .now)) by)
 
@@ -31,7 +31,7 @@ nt7508-controller-serial-effect-edges-spec =
     (tie.spec
     (λ c κs. search needs)
     returns
-    (λ c κs. held-length _ (passed (c .before .holds .ensures) (c .if1 .left)))
+    (λ c κs. block-length _ (passed (c .before .holds .ensures) (c .if1 .left)))
     (λ c κs. search needs)
     (λ c κs. search needs)
     returns-2)

@@ -1,5 +1,5 @@
 -- `scan::check::check_but_clock` meets its contract.
-use Rattle.scan.specs.Closed.{checkButClock}
+use Rattle.scan.specs.Check.{checkButClock}
 use borrow.Author.Needs.{needs}
 use Rattle.scan.proofs.check.check_but_clock.Statement.{statement}
 use Rattle.scan.proofs.check.check_but_clock.Tie as tie

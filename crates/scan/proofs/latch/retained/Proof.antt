@@ -1,7 +1,7 @@
 -- `scan::latch::retained` meets its contract.
 use mathlib.Core.Path.{sym}
 use borrow.Author.Needs.{needs}
-use Rattle.scan.specs.Latch.{keptLatch, retained}
+use Rattle.scan.specs.Latch.{latchRetained, retained}
 use Rattle.scan.specs.State.{withLatch}
 use Rattle.scan.proofs.latch.retained.Statement.{statement}
 use Rattle.scan.proofs.latch.retained.Tie as tie
@@ -11,7 +11,7 @@ unfolding retained
 returns c = simp (sym (c .before .before .before .latched-row .ensures), sym (c .before .before .affected .ensures), c .if1 .taken)
 
 returns-2 : tie.Need-returns-2
-unfolding retained keptLatch withLatch
+unfolding retained latchRetained withLatch
 returns-2 c =
     let at-affected = c .before .before .before in
     simp (sym (at-affected .before .latched-row .ensures), sym (at-affected .affected .ensures), c .before .if1 .left, c .present-latch .ensures)

@@ -1,7 +1,7 @@
 -- `scan::planes::eight` meets its contract.
 use mathlib.Core.Path.{_≡_}
 use borrow.Author.Needs.{needs}
-use Rattle.scan.specs.Closed.{eightFrom}
+use Rattle.scan.specs.Planes.{eightFrom}
 use Rattle.scan.proofs.Packing.{eight-le}
 use Rattle.scan.proofs.planes.eight.Statement.{statement}
 use Rattle.scan.proofs.planes.eight.Tie as tie

@@ -2,7 +2,7 @@
 use native.Mathlib.Omega.{arith}
 use Rattle.scan.specs.Run.{begun, taken}
 use Rattle.scan.specs.State.{withLatch}
-use Rattle.scan.specs.Latch.{keptLatch}
+use Rattle.scan.specs.Latch.{latchRetained}
 use borrow.Author.Needs.{needs}
 use Rattle.scan.proofs.run.begun.Statement.{statement}
 use Rattle.scan.proofs.run.begun.Tie as tie
@@ -14,7 +14,7 @@ present-latch-requires c κs =
     (rw (c .taken .ensures) (omega arith), (start .pre .0, start .pre .1))
 
 returns : tie.Need-returns
-unfolding begun keptLatch withLatch taken
+unfolding begun latchRetained withLatch taken
 returns c = simp (c .present-latch .ensures, c .before .taken .ensures)
 
 pub begun-spec : {M : Type 1} → statement M

@@ -18,8 +18,8 @@ returns-2 c =
     let at-conditions-of = at-driven .before in
     let passed = at-conditions-of .before in
     let checked = passed .before .before .check-image .ensures in
-    let told = passed .enum-told .given .1 in
-    rw (at-render .render .ensures .1, render-passed _ _ _ _ _ (image-called _ _ _ _ (passes checked told)), at-driven .driven .ensures, at-conditions-of .conditions-of .ensures) (passed-answer checked _ _ told)
+    let unrefused = passed .enum-told .given .1 in
+    rw (at-render .render .ensures .1, render-passed _ _ _ _ _ (image-called _ _ _ _ (passes checked unrefused)), at-driven .driven .ensures, at-conditions-of .conditions-of .ensures) (passed-answer checked _ _ unrefused)
 
 pub render-spec : {M : Type 1} → statement M
 render-spec =

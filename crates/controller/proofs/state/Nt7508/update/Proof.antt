@@ -16,8 +16,8 @@ returns-2 c =
     let at-count-to = c .before .before in
     let passed = at-count-to .before .before in
     let checked = passed .before .before .check-moment .ensures in
-    let told = passed .enum-told .given .1 in
-    rw (c .with-scan .ensures, count-passed _ _ _ (at-count-to .count-to .result) (at-count-to .count-to .ensures) (scan-timed _ _ (passes checked told))) (passed-answer checked _ _ told)
+    let unrefused = passed .enum-told .given .1 in
+    rw (c .with-scan .ensures, count-passed _ _ _ (at-count-to .count-to .result) (at-count-to .count-to .ensures) (scan-timed _ _ (passes checked unrefused))) (passed-answer checked _ _ unrefused)
 
 pub update-spec : {M : Type 1} → statement M
 update-spec =
