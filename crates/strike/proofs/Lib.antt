@@ -1,4 +1,4 @@
--- Struck: demand 3. Never: no list from power-on is answered 3 to 5. Example: the claim is not empty.
+-- Struck: demand 3. Never: no list from power-on is answered 3 to 5. Example: the claim is not empty, nor weaker than it reads.
 mod Packs
 mod Bytes
 mod Bits

@@ -7,7 +7,7 @@ use mathlib.Core.Path.{_≡_, refl, sym, _∙_, ap}
 use native.Mathlib.Omega.{arith}
 use lib.Dec.{eqb}
 use lib.ListN.{length}
-use borrow.Author.Tests.{eqb-true, eqb-false, not-true}
+use borrow.Author.Tests.{eqb-true, eqb-false}
 use Rattle.checks.proofs.Tests.{both}
 use Rattle.clock.specs.declared.time.Time.{Time}
 use Rattle.clock.specs.Time.{raw, inRange}
@@ -71,6 +71,44 @@ goes-on (b ∷ bits) true false h = absurd (false≢true h)
 goes-on (b ∷ bits) false true h = absurd (false≢true h)
 goes-on (b ∷ bits) false false h = refl
 
+-- ---- what may be struck, fact by fact. Each is by cases, so that it asks nothing of how `mayStrike` is written
+module _ (l : Line) (v : ℕ) (may : mayStrike l v ≡ true) where
+  -- a struck byte is E3
+  struck-is-e3 : v ≡ 0xe3
+  unfolding mayStrike
+  struck-is-e3 = go (l .isData) (l .awaiting) (eqb v 0xe3) refl refl refl
+    where
+      go : (d w e : Bool) → l .isData ≡ d → l .awaiting ≡ w → eqb v 0xe3 ≡ e → v ≡ 0xe3
+      go d w true hd hw he = eqb-true v 0xe3 he
+      go true true false hd hw he = absurd (false≢true (simp (hd, hw, he) at may))
+      go true false false hd hw he = absurd (false≢true (simp (hd, hw, he) at may))
+      go false true false hd hw he = absurd (false≢true (simp (hd, hw, he) at may))
+      go false false false hd hw he = absurd (false≢true (simp (hd, hw, he) at may))
+
+  -- it is no data
+  struck-is-command : l .isData ≡ false
+  unfolding mayStrike
+  struck-is-command = go (l .isData) (l .awaiting) (eqb v 0xe3) refl refl refl
+    where
+      go : (d w e : Bool) → l .isData ≡ d → l .awaiting ≡ w → eqb v 0xe3 ≡ e → l .isData ≡ false
+      go false w e hd hw he = hd
+      go true true true hd hw he = absurd (false≢true (simp (hd, hw, he) at may))
+      go true true false hd hw he = absurd (false≢true (simp (hd, hw, he) at may))
+      go true false true hd hw he = absurd (false≢true (simp (hd, hw, he) at may))
+      go true false false hd hw he = absurd (false≢true (simp (hd, hw, he) at may))
+
+  -- no parameter is awaited
+  struck-is-no-parameter : l .awaiting ≡ false
+  unfolding mayStrike
+  struck-is-no-parameter = go (l .isData) (l .awaiting) (eqb v 0xe3) refl refl refl
+    where
+      go : (d w e : Bool) → l .isData ≡ d → l .awaiting ≡ w → eqb v 0xe3 ≡ e → l .awaiting ≡ false
+      go d false e hd hw he = hw
+      go true true true hd hw he = absurd (false≢true (simp (hd, hw, he) at may))
+      go true true false hd hw he = absurd (false≢true (simp (hd, hw, he) at may))
+      go false true true hd hw he = absurd (false≢true (simp (hd, hw, he) at may))
+      go false true false hd hw he = absurd (false≢true (simp (hd, hw, he) at may))
+
 not-awaiting : (p : Pending) → isAwaiting p ≡ false → p ≡ Pending.None
 not-awaiting Pending.None h = refl
 not-awaiting (Pending.Command c) h = absurd (false≢true (sym h))
@@ -81,12 +119,12 @@ byte-ok : (c : Nt7508) (x : Scan) (v : ℕ) (now : Time) (ram icons : List ℕ) 
 byte-ok c x v now ram icons h i mem ok = byte-valid (stateOf c [] x) v now ram icons h (called-check (stateOf c [] x) now ram icons (record { memory = mem; in-range = i; state = ok }))
 
 -- E3 awaits no parameter
-nop-free : awaits 227 ≡ false
+nop-free : awaits 0xe3 ≡ false
 unfolding awaits
 nop-free = refl
 
 -- and leaves every register as it was
-nop-idle : (c : Nt7508) → isAwaiting (c .serial .pending) ≡ false → acted (withSerial c (withBits (c .serial) 0 0)) 227 ≡ withSerial c (withBits (c .serial) 0 0)
+nop-idle : (c : Nt7508) → isAwaiting (c .serial .pending) ≡ false → acted (withSerial c (withBits (c .serial) 0 0)) 0xe3 ≡ withSerial c (withBits (c .serial) 0 0)
 unfolding withSerial
 nop-idle c h = nop-acted (withSerial c (withBits (c .serial) 0 0)) (not-awaiting (c .serial .pending) h)
 
@@ -247,7 +285,7 @@ module _ (now : Time) (l : Line) (c : Nt7508) (x y : Scan) (ram icons : List ℕ
 
   -- a bit that is allowed, struck or not
   one-of : (k : Bool) → allowedBit l (bit b k) ≡ true → Runs true now (followBit l (bit b k)) (move b now here) (cond k there (move b now there))
-  unfolding followBit takenBit allowedBit allowedTaken isStruck mayStrike
+  unfolding followBit takenBit allowedBit allowedTaken isStruck
   one-of k ok = go (takes l) (isWhole (b ∷ l .bits)) refl refl k ok
     where
       go : (t w : Bool) → takes l ≡ t → isWhole (b ∷ l .bits) ≡ w → (k : Bool)
@@ -259,12 +297,10 @@ module _ (now : Time) (l : Line) (c : Nt7508) (x y : Scan) (ram icons : List ℕ
       go true true h e false ok = whole-byte h e (goes-on (l .bits) (l .struck) false (both _ true ok .0))
       go true true h e true ok =
           let p = both _ (mayStrike l (value (b ∷ l .bits))) ok in
-          let q = both (not (l .isData) && not (l .awaiting)) (eqb (value (b ∷ l .bits)) 227) (p .1) in
-          let r = both (not (l .isData)) (not (l .awaiting)) (q .0) in
-          let free = not-true (l .awaiting) (r .1) in
-          let is-nop : v h e ≡ 227 = eqb-true (value (b ∷ l .bits)) 227 (q .1) in
-          struck-byte h e (goes-on (l .bits) (l .struck) true (p .0)) (not-true (l .isData) (r .0)) free
-          (ap awaits is-nop ∙ nop-free) (ap (acted (base c 0 now ram icons)) is-nop ∙ nop-idle c (a .tied .awaiting ∙ free))
+          let free = struck-is-no-parameter l (value (b ∷ l .bits)) (p .1) in
+          let is-e3 : v h e ≡ 0xe3 = struck-is-e3 l (value (b ∷ l .bits)) (p .1) in
+          struck-byte h e (goes-on (l .bits) (l .struck) true (p .0)) (struck-is-command l (value (b ∷ l .bits)) (p .1)) free
+          (ap awaits is-e3 ∙ nop-free) (ap (acted (base c 0 now ram icons)) is-e3 ∙ nop-idle c (a .tied .awaiting ∙ free))
 
 -- of machines that are equal
 pub carried : {ok ok′ : Bool} {at : Time} {l : Line} {m m′ n n′ : Machine} → ok ≡ ok′ → m ≡ m′ → n ≡ n′ → Runs ok′ at l m′ n′ → Runs ok at l m n

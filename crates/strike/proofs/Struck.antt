@@ -60,8 +60,8 @@ module _ (now : Time) (m : Machine) (h : checkMoment (m .state) now ≡ row 1 (i
 
 module _ (ok : Bool) (last : ℕ) (l : Line) (m n : Machine) (w : Next ok last l m n) where
   -- a call that leaves line and moment
-  kept-at : {l′ : Line} {m′ n′ : Machine} (next : ℕ) → last ≤ next → Runs ok (w .at) l′ m′ n′ → Next ok next l′ m′ n′
-  kept-at next le r = record { at = w .at; runs = r; early = le-trans (w .early) le }
+  stays-at : {l′ : Line} {m′ n′ : Machine} (next : ℕ) → last ≤ next → Runs ok (w .at) l′ m′ n′ → Next ok next l′ m′ n′
+  stays-at next le r = record { at = w .at; runs = r; early = le-trans (w .early) le }
 
   -- a call with a moment: in range it is made at that moment, else it is refused
   module _ (now : Time) (le : last ≤ raw now) where
@@ -82,32 +82,32 @@ module _ (ok : Bool) (last : ℕ) (l : Line) (m n : Machine) (w : Next ok last l
       where
         go : (i : Bool) → inRange now ≡ i → Next ok (raw now) (cond i (followSupply l millivolts now) l) (after (Call.Supply millivolts now) m) (after (Call.Supply millivolts now) n)
         go true i = made-at (supply-runs now (at-now i) i millivolts)
-        go false i = kept-at (raw now) le (carried refl (supply-late now m full-moment i millivolts) (supply-late now n kept-moment i millivolts) (w .runs))
+        go false i = stays-at (raw now) le (carried refl (supply-late now m full-moment i millivolts) (supply-late now n kept-moment i millivolts) (w .runs))
 
     deadline-step : Next ok (raw now) (cond (inRange now) (followDeadline l now) l) (after (Call.Deadline now) m) (after (Call.Deadline now) n)
     deadline-step = go (inRange now) refl
       where
         go : (i : Bool) → inRange now ≡ i → Next ok (raw now) (cond i (followDeadline l now) l) (after (Call.Deadline now) m) (after (Call.Deadline now) n)
         go true i = made-at (deadline-runs now (at-now i) i)
-        go false i = kept-at (raw now) le (carried refl (deadline-late now m full-moment i) (deadline-late now n kept-moment i) (w .runs))
+        go false i = stays-at (raw now) le (carried refl (deadline-late now m full-moment i) (deadline-late now n kept-moment i) (w .runs))
 
     update-step : Next ok (raw now) l (after (Call.Update now) m) (after (Call.Update now) n)
     update-step = go (inRange now) refl
       where
         go : (i : Bool) → inRange now ≡ i → Next ok (raw now) l (after (Call.Update now) m) (after (Call.Update now) n)
         go true i = made-at (update-runs now (at-now i) i)
-        go false i = kept-at (raw now) le (carried refl (update-late now m full-moment i) (update-late now n kept-moment i) (w .runs))
+        go false i = stays-at (raw now) le (carried refl (update-late now m full-moment i) (update-late now n kept-moment i) (w .runs))
 
     update-struck : Next ok (raw now) l (after (Call.Update now) m) n
     update-struck = go (inRange now) refl
       where
         go : (i : Bool) → inRange now ≡ i → Next ok (raw now) l (after (Call.Update now) m) n
         go true i = made-at (update-gone now (at-now i) i)
-        go false i = kept-at (raw now) le (carried refl (update-late now m full-moment i) refl (w .runs))
+        go false i = stays-at (raw now) le (carried refl (update-late now m full-moment i) refl (w .runs))
 
   -- a deadline call may come at any moment in range
   pub deadline-any : (now : Time) → inRange now ≡ true → Next ok last (followDeadline l now) (after (Call.Deadline now) m) (after (Call.Deadline now) n)
-  deadline-any now i = kept-at last (le-refl last) (deadline-runs now (w .runs) i)
+  deadline-any now i = stays-at last (le-refl last) (deadline-runs now (w .runs) i)
 
   -- a call that both runs have
   pub step-call : (c : Call) → last ≤ timeOf c last → allowedCall ok l c ≡ true → Next ok (timeOf c last) (followCall ok l c) (after c m) (after c n)
@@ -115,15 +115,15 @@ module _ (ok : Bool) (last : ℕ) (l : Line) (m n : Machine) (w : Next ok last l
   step-call (Call.Bits now count bits) le h =
       let r = step-group ok last l m n w now count bits [] le h in
       record { at = r .at; runs = carried refl refl (ap (λ (c : Call). after c n) (sym (whole-left now count bits [] refl))) (r .runs); early = r .early }
-  step-call (Call.Data on) le h = kept-at last le (data-runs (w .runs) on)
-  step-call (Call.Select on) le h = kept-at last le (select-runs (w .runs) on)
+  step-call (Call.Data on) le h = stays-at last le (data-runs (w .runs) on)
+  step-call (Call.Select on) le h = stays-at last le (select-runs (w .runs) on)
   step-call (Call.Supply millivolts now) le h = supply-step now le millivolts
-  step-call (Call.Temperature t) le h = kept-at last le (temperature-runs (w .runs) t)
+  step-call (Call.Temperature t) le h = stays-at last le (temperature-runs (w .runs) t)
   step-call (Call.Deadline now) le h = deadline-step now le
   step-call (Call.Update now) le h = update-step now le
-  step-call (Call.Drive now) le h = kept-at (raw now) le (w .runs)
-  step-call (Call.Image pixels) le h = kept-at last le (w .runs)
-  step-call Call.Voltages le h = kept-at last le (w .runs)
+  step-call (Call.Drive now) le h = stays-at (raw now) le (w .runs)
+  step-call (Call.Image pixels) le h = stays-at last le (w .runs)
+  step-call Call.Voltages le h = stays-at last le (w .runs)
 
   step-left : (k : Marked) → last ≤ timeOf (plain k) last → allowedOne ok l k ≡ true → Next ok (timeOf (plain k) last) (follow ok l k) (after (plain k) m) (after (left k) n)
   unfolding plain left follow allowedOne timeOf
@@ -209,6 +209,28 @@ module _ (ok : Bool) (last : ℕ) (l : Line) (m n : Machine) (w : Next ok last l
   same-reply (Marked.Update now) le h = same-call (Call.Update now) le refl
   same-reply (Marked.Bits now count bits marks) le h = same-bits now count bits marks le h
 
+-- ---- call times that never fall, fact by fact. Each is by cases, so that it asks nothing of how `neverFall` is written
+module _ (last : ℕ) (c : Call) (cs : List Call) (times : neverFall last (c ∷ cs) ≡ true) where
+  -- the first call is not before the last moment
+  first-in-order : last ≤ timeOf c last
+  unfolding neverFall
+  first-in-order = go (leb last (timeOf c last)) (neverFall (timeOf c last) cs) refl refl
+    where
+      go : (f r : Bool) → leb last (timeOf c last) ≡ f → neverFall (timeOf c last) cs ≡ r → last ≤ timeOf c last
+      go true r hf hr = leb-true last (timeOf c last) hf
+      go false true hf hr = absurd (false≢true (simp (hf, hr) at times))
+      go false false hf hr = absurd (false≢true (simp (hf, hr) at times))
+
+  -- nor are the others before the first
+  rest-in-order : neverFall (timeOf c last) cs ≡ true
+  unfolding neverFall
+  rest-in-order = go (leb last (timeOf c last)) (neverFall (timeOf c last) cs) refl refl
+    where
+      go : (f r : Bool) → leb last (timeOf c last) ≡ f → neverFall (timeOf c last) cs ≡ r → r ≡ true
+      go f true hf hr = refl
+      go true false hf hr = absurd (false≢true (simp (hf, hr) at times))
+      go false false hf hr = absurd (false≢true (simp (hf, hr) at times))
+
 -- ---- the whole list
 record Result (ok : Bool) (l : Line) (ms : List Marked) (m n : Machine) : Type 0 where
   replies : map compared (run (kept ms) n) ≡ expected ok l ms (map compared (run (full ms) m))
@@ -226,17 +248,16 @@ module _ (k : Marked) (ms : List Marked) (ok : Bool) (l : Line) (m n : Machine) 
   one-left g e r = record { replies = rw g (ap₂ _∷_ e (r .replies)); ram-same = rw g (r .ram-same); icons-same = rw g (r .icons-same) }
 
 from : (ms : List Marked) (ok : Bool) (l : Line) (last : ℕ) (m n : Machine) → Next ok last l m n → neverFall last (full ms) ≡ true → allowed ok l ms ≡ true → Result ok l ms m n
-unfolding run end kept full expected neverFall allowed
+unfolding run end kept full expected allowed
 from [] ok l last m n w times h = record {
   replies = refl;
   ram-same = memory-same ok last l m n w .0;
   icons-same = memory-same ok last l m n w .1;
 }
 from (k ∷ ms) ok l last m n w times h =
-    let t = both (leb last (timeOf (plain k) last)) _ times in
     let a = both (allowedOne ok l k) _ h in
-    let le = leb-true last (timeOf (plain k) last) (t .0) in
-    go (gone k) refl le (a .0) (λ n′ w′. from ms ok (follow ok l k) (timeOf (plain k) last) (after (plain k) m) n′ w′ (t .1) (a .1))
+    let le = first-in-order last (plain k) (full ms) times in
+    go (gone k) refl le (a .0) (λ n′ w′. from ms ok (follow ok l k) (timeOf (plain k) last) (after (plain k) m) n′ w′ (rest-in-order last (plain k) (full ms) times) (a .1))
   where
     go : (g : Bool) → gone k ≡ g → last ≤ timeOf (plain k) last → allowedOne ok l k ≡ true
         → ((n′ : Machine) → Next ok (timeOf (plain k) last) (follow ok l k) (after (plain k) m) n′ → Result ok (follow ok l k) ms (after (plain k) m) n′)

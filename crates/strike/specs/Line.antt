@@ -176,7 +176,7 @@ follow memoryOk l (Marked.Bits now count bits marks) = cond (accepted memoryOk n
 -- ---- what may be struck
 -- a byte that may be struck: E3, taken as a command while no parameter is awaited
 unfoldable pub mayStrike : Line → (v : ℕ) → Bool
-mayStrike l v = not (l .isData) && not (l .awaiting) && eqb v 227
+mayStrike l v = not (l .isData) && not (l .awaiting) && eqb v 0xe3
 
 -- a byte is struck whole or not at all: its first bit may be either, the others are as the first
 unfoldable pub goesOn : List Bool → (was struck : Bool) → Bool
