@@ -10,13 +10,7 @@
 //   answers: the number; the sum of what the call gives (an event, pieces, a drive with its frame
 //     length, an image, voltages, edges, the end of the wait, whether there is a pair), or 0 if it is
 //     refused; the sums of the block, of RAM and of icons after it. A sum starts at 0, and each byte,
-//     or each word as its high and its low half, adds as in kind 6.
-use crate::scan_cases::added;
-use crate::scan_cases::fill;
-use crate::scan_cases::sum_of;
-use crate::voltage_cases::temperature;
-use crate::words::take;
-use crate::words::wide;
+//     or each word as its high and its low half, adds as in replay's `added`.
 use ffi::controller_words::nt7508_controller_at_deadline;
 use ffi::controller_words::nt7508_controller_command_data;
 use ffi::controller_words::nt7508_controller_lose_volatile;
@@ -33,19 +27,16 @@ use ffi::look_words::nt7508_controller_find_setting;
 use ffi::look_words::nt7508_controller_render;
 use ffi::look_words::nt7508_controller_serial_effect_edges;
 use ffi::look_words::nt7508_controller_voltages;
+use replay::added;
+use replay::as_u64;
+use replay::fill;
+use replay::sum_of;
+use replay::sum_of_words;
 
 // The number of a call, and the sum of what it gives.
 struct Given {
     number: u64,
     sum: u64,
-}
-
-pub(crate) fn sum_of_words(words: &[u64]) -> u64 {
-    let mut sum = 0;
-    for i in 0..words.len() {
-        sum = added(added(sum, words[i] / 4294967296), words[i] % 4294967296);
-    }
-    sum
 }
 
 fn refused(number: u64) -> Given {
@@ -66,16 +57,28 @@ fn gives(number: u64, words: &[u64]) -> Given {
     }
 }
 
-fn told(number: u64, event: &[u64; 8]) -> Given {
+fn gives_event(number: u64, event: &[u64; 8]) -> Given {
     gives(number, event)
 }
 
-fn bits(w: &[u64; 108], block: &mut [u64], ram: &mut [u8], icons: &mut [u8]) -> Given {
+fn rising(
+    w: &[u64; 108],
+    block: &mut [u64; 75],
+    ram: &mut [u8; 4096],
+    icons: &mut [u8; 256],
+) -> Given {
     let mut event = [0u64; 8];
-    if w[0] == 0 {
-        let number = nt7508_controller_rising(block, w[1] != 0, w[3], w[4], ram, icons, &mut event);
-        return told(number, &event);
-    }
+    let number = nt7508_controller_rising(block, w[1] != 0, w[3], w[4], ram, icons, &mut event);
+    gives_event(number, &event)
+}
+
+fn shift_in(
+    w: &[u64; 108],
+    block: &mut [u64; 75],
+    ram: &mut [u8; 4096],
+    icons: &mut [u8; 256],
+) -> Given {
+    let mut event = [0u64; 8];
     let number = nt7508_controller_shift_in(
         block,
         (w[1] % 256) as u8,
@@ -86,26 +89,37 @@ fn bits(w: &[u64; 108], block: &mut [u64], ram: &mut [u8], icons: &mut [u8]) -> 
         icons,
         &mut event,
     );
-    told(number, &event)
+    gives_event(number, &event)
 }
 
-// Calls that change the state and give nothing.
-fn changed(w: &[u64; 108], block: &mut [u64], ram: &mut [u8], icons: &mut [u8]) -> u64 {
+// Calls that change the state alone, and give nothing.
+fn changed(w: &[u64; 108], block: &mut [u64; 75]) -> u64 {
     match w[0] {
         2 => nt7508_controller_select(block, w[1] != 0),
         3 => nt7508_controller_command_data(block, w[1] != 0),
         4 => nt7508_controller_set_supply(block, (w[1] % 65536) as u16, w[3], w[4]),
-        5 => nt7508_controller_set_temperature(block, temperature((w[1] % 4294967296) as u32)),
-        6 => nt7508_controller_lose_volatile(block, ram, icons),
-        7 => nt7508_controller_at_deadline(block, w[3], w[4]),
-        _ => nt7508_controller_restore(block, w[3], w[4], ram, icons),
+        5 => nt7508_controller_set_temperature(block, replay::temperature(w[1])),
+        _ => nt7508_controller_at_deadline(block, w[3], w[4]),
     }
 }
 
-fn update(w: &[u64; 108], block: &mut [u64]) -> Given {
+// Calls that change memory too, and give nothing.
+fn changed_all(
+    w: &[u64; 108],
+    block: &mut [u64; 75],
+    ram: &mut [u8; 4096],
+    icons: &mut [u8; 256],
+) -> u64 {
+    if w[0] == 6 {
+        return nt7508_controller_lose_volatile(block, ram, icons);
+    }
+    nt7508_controller_restore(block, w[3], w[4], ram, icons)
+}
+
+fn update(w: &[u64; 108], block: &mut [u64; 75]) -> Given {
     let mut pieces = 0;
     let number = nt7508_controller_update(block, w[3], w[4], &mut pieces);
-    gives(number, &[wide(pieces)])
+    gives(number, &[as_u64(pieces)])
 }
 
 fn driven(drive: &[u64; 12], frame: u16) -> Given {
@@ -115,7 +129,7 @@ fn driven(drive: &[u64; 12], frame: u16) -> Given {
     }
 }
 
-fn drive(w: &[u64; 108], block: &[u64], ram: &[u8], icons: &[u8]) -> Given {
+fn drive(w: &[u64; 108], block: &[u64; 75], ram: &[u8; 4096], icons: &[u8; 256]) -> Given {
     let mut out = [0u64; 12];
     let mut frame: u16 = 0;
     let number = nt7508_controller_drive(block, w[3], w[4], ram, icons, &mut out, &mut frame);
@@ -125,7 +139,7 @@ fn drive(w: &[u64; 108], block: &[u64], ram: &[u8], icons: &[u8]) -> Given {
     driven(&out, frame)
 }
 
-fn render(block: &[u64], ram: &[u8], icons: &[u8]) -> Given {
+fn render(block: &[u64; 75], ram: &[u8; 4096], icons: &[u8; 256]) -> Given {
     let mut image = [0u8; 6144];
     let number = nt7508_controller_render(block, ram, icons, &mut image);
     if number != 0 {
@@ -137,34 +151,34 @@ fn render(block: &[u64], ram: &[u8], icons: &[u8]) -> Given {
     }
 }
 
-fn levels(number: u64, voltages: &[u64; 7]) -> Given {
+fn gives_voltages(number: u64, voltages: &[u64; 7]) -> Given {
     gives(number, voltages)
 }
 
-fn voltages(block: &[u64]) -> Given {
+fn voltages(block: &[u64; 75]) -> Given {
     let mut out = [0u64; 7];
     let number = nt7508_controller_voltages(block, &mut out);
-    levels(number, &out)
+    gives_voltages(number, &out)
 }
 
-fn edges(w: &[u64; 108], block: &[u64]) -> Given {
+fn edges(w: &[u64; 108], block: &[u64; 75]) -> Given {
     let mut out = 0;
     let number = nt7508_controller_serial_effect_edges(block, w[1] != 0, &mut out);
-    gives(number, &[wide(out)])
+    gives(number, &[as_u64(out)])
 }
 
-fn end(number: u64, deadline: &[u64; 3]) -> Given {
+fn gives_deadline(number: u64, deadline: &[u64; 3]) -> Given {
     gives(number, deadline)
 }
 
-fn deadline(block: &[u64]) -> Given {
+fn deadline(block: &[u64; 75]) -> Given {
     let mut out = [0u64; 3];
     let number = nt7508_controller_deadline(block, &mut out);
-    end(number, &out)
+    gives_deadline(number, &out)
 }
 
 // Which pair it is, is open.
-fn found(w: &[u64; 108], block: &[u64]) -> Given {
+fn found(w: &[u64; 108], block: &[u64; 75]) -> Given {
     let mut out = [0u64; 3];
     let number = nt7508_controller_find_setting(
         block,
@@ -175,7 +189,7 @@ fn found(w: &[u64; 108], block: &[u64]) -> Given {
     gives(number, &[out[0]])
 }
 
-fn looked(w: &[u64; 108], block: &[u64], ram: &[u8], icons: &[u8]) -> Given {
+fn looked(w: &[u64; 108], block: &[u64; 75], ram: &[u8; 4096], icons: &[u8; 256]) -> Given {
     match w[0] {
         10 => drive(w, block, ram, icons),
         11 => render(block, ram, icons),
@@ -186,31 +200,64 @@ fn looked(w: &[u64; 108], block: &[u64], ram: &[u8], icons: &[u8]) -> Given {
     }
 }
 
-fn called(w: &[u64; 108], block: &mut [u64], ram: &mut [u8], icons: &mut [u8]) -> Given {
-    if w[0] < 2 {
-        return bits(w, block, ram, icons);
+fn called(
+    w: &[u64; 108],
+    block: &mut [u64; 75],
+    ram: &mut [u8; 4096],
+    icons: &mut [u8; 256],
+) -> Given {
+    match w[0] {
+        0 => rising(w, block, ram, icons),
+        1 => shift_in(w, block, ram, icons),
+        2..=5 | 7 => refused(changed(w, block)),
+        6 | 9 => refused(changed_all(w, block, ram, icons)),
+        8 => update(w, block),
+        _ => looked(w, block, ram, icons),
     }
-    if w[0] == 8 {
-        return update(w, block);
+}
+
+// The words that a line starts with.
+fn take(line: &[u64; 108], out: &mut [u64; 75]) {
+    for i in 0..75 {
+        out[i] = line[i];
     }
-    if w[0] < 10 {
-        return refused(changed(w, block, ram, icons));
-    }
-    looked(w, block, ram, icons)
 }
 
 // The state and the memory in which a list starts.
-pub(crate) fn begin(w: &[u64; 108], block: &mut [u64], ram: &mut [u8], icons: &mut [u8]) {
-    take(w, 0, block);
+fn begin(w: &[u64; 108], block: &mut [u64; 75], ram: &mut [u8; 4096], icons: &mut [u8; 256]) {
+    take(w, block);
     fill(w[75], w[76], ram);
     fill(w[75], w[76] % 251 + 1, icons);
 }
 
-pub(crate) fn agrees(w: &[u64; 108], block: &mut [u64], ram: &mut [u8], icons: &mut [u8]) -> bool {
+fn call_agrees(
+    w: &[u64; 108],
+    block: &mut [u64; 75],
+    ram: &mut [u8; 4096],
+    icons: &mut [u8; 256],
+) -> bool {
     let given = called(w, block, ram, icons);
     (given.number == w[5])
         & (given.sum == w[6])
         & (sum_of_words(block) == w[7])
         & (sum_of(ram) == w[8])
         & (sum_of(icons) == w[9])
+}
+
+// Whether ours answers as a line of a kind says, on what the line before left.
+pub(crate) fn agrees(
+    kind: u64,
+    w: &[u64; 108],
+    block: &mut [u64; 75],
+    ram: &mut [u8; 4096],
+    icons: &mut [u8; 256],
+) -> bool {
+    if kind == 7 {
+        begin(w, block, ram, icons);
+        return true;
+    }
+    if kind == 8 {
+        return call_agrees(w, block, ram, icons);
+    }
+    false
 }

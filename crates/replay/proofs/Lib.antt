@@ -1,0 +1,3 @@
+-- Laws that the proofs of this crate use.
+mod Laws
+mod Reading
