@@ -23,7 +23,7 @@ use clock::Rate;
 use clock::Time;
 use clock::Wide;
 use replay::added;
-use replay::as_u64;
+use replay::extended;
 use replay::fill;
 use scan::Check;
 use scan::Common;
@@ -124,7 +124,7 @@ fn is_flag(yes: bool, word: u64) -> bool {
 }
 
 fn is_byte(x: u8, word: u64) -> bool {
-    as_u64(x) == word
+    extended(x) == word
 }
 
 // A clock that is stopped has 0 for each number.

@@ -7,7 +7,7 @@ mod tally;
 pub use cases::Case;
 pub use cases::case_at;
 pub use rules::added;
-pub use rules::as_u64;
+pub use rules::extended;
 pub use rules::fill;
 pub use rules::sum_of;
 pub use rules::sum_of_words;
