@@ -1,8 +1,8 @@
-//! Fixed lists of the original's answers, which the Rattle program `cases` replays
-//! with no Rust at hand. A line is one case: its kind, what is asked, and the
-//! original's answers, unsigned decimals with one space between; crates/cases/src
-//! says for each kind what the numbers are. The same command gives the same bytes
-//! again.
+//! Fixed lists of the original's answers, which the Rattle programs `layer_cases`
+//! and `cases` replay with no Rust at hand. A line is one case: its kind, what is
+//! asked, and the original's answers, unsigned decimals with one space between;
+//! the src/ of these two crates says for each kind what the numbers are. The same
+//! command gives the same bytes again.
 use crate::{
     clock::{edge_micros, random_clock, random_edges, random_moment, sweep},
     paper::edge,
