@@ -14,12 +14,12 @@ abbrev pub firstOf : Option ℕ → Option ℕ → Option ℕ
 firstOf none b = b
 firstOf (some n) b = some n
 
--- what a call answers: the number of its refusal, or the value
+-- the answer of a call: the number of its refusal, or the value
 abbrev pub answer : {A : Type 0} → Option ℕ → A → ℕ ⊎ A
 answer none a = inr a
 answer (some n) a = inl n
 
--- what a call leaves: the new value, or, where it is turned down, the one given
+-- the value after a call: the new one, or, where it is turned down, the one given
 abbrev pub unlessRefused : {A : Type 0} → Option ℕ → (new given : A) → A
 unlessRefused none new given = new
 unlessRefused (some n) new given = given

@@ -20,7 +20,7 @@ number Refusal.Time = 1
 number Refusal.Rate = 4
 number Refusal.Clock = 5
 
--- what a check answers: none where it passes, or the number of its refusal
+-- the answer of a check: none where it passes, or the number of its refusal
 abbrev pub refused : Check → Option ℕ
 refused Check.Passed = none
 refused (Check.Refused why) = some (number why)
@@ -32,7 +32,7 @@ isOfRate c r =
     && eqb (value (c .whole)) (period r / r .numerator)
     && eqb (c .remainder) (period r % r .numerator)
 
--- what number 5 asks for: the clock of the rate, its fraction below p, its last edge in range, and
+-- the condition of number 5: the clock of the rate, its fraction below p, its last edge in range, and
 -- ordinal × q × 2^64 not above last edge × p + fraction
 unfoldable pub validClock : Clock → Rate → Bool
 validClock c r =

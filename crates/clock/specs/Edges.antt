@@ -53,7 +53,7 @@ edgesAmong (suc n) c r now = edgesAmong n c r now + cond (leb (edge c r (suc n))
 unfoldable pub edgesTo : Clock → Rate → Time → ℕ
 edgesTo c r now = edgesAmong (raw now + 1) c r now
 
--- what the calls answer: the number of a refusal, or the value
+-- the answers of the calls: the number of a refusal, or the value
 abbrev pub answeredClock : Made → ℕ ⊎ Clock
 answeredClock (Made.Clock c) = inr c
 answeredClock (Made.Refused why) = inl (number why)

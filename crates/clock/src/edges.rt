@@ -45,7 +45,7 @@ pub enum Passed {
     Refused(Refusal),
 }
 
-// What `advance` answers, and the clock that it leaves.
+// The answer of `advance`, and the clock that it leaves.
 struct Advanced {
     check: Check,
     clock: Clock,
@@ -234,7 +234,7 @@ impl Clock {
         Made::Clock(clock)
     }
 
-    // What `advance` does, by value.
+    // The same as `advance`, by value.
     fn advanced(self, rate: Rate, edges: u64) -> Advanced
         ensures { λ r. ⌜ (refused (r .check), r .clock) ≡ advanceClock self rate edges ⌝ }
     {

@@ -18,7 +18,7 @@ use Rattle.controller.specs.Check.{refused, checkLent, checkGroup}
 use Rattle.controller.specs.Event.{unstored, ramAfter, iconsAfter}
 use Rattle.controller.specs.Byte.{waiting, byteTaken}
 
--- what a call leaves: the state, the event it gives, and lent memory
+-- the outcome of a call: the state, the event it gives, and lent memory
 pub record Outcome : Type 0 where
   pub state : Nt7508
   pub event : Event
@@ -76,7 +76,7 @@ unfoldable pub unpacked : (count bits : ℕ) → List Bool
 unpacked zero bits = []
 unpacked (suc n) bits = bitAt bits n ∷ unpacked n bits
 
--- what a call answered, and the lent memory that it left; a call that stores nothing itself says what is to be stored
+-- the answer of a call, and the lent memory that it left; a call that stores nothing itself says what is to be stored
 abbrev pub received : Received → (ram icons : List ℕ) → Option ℕ × Outcome
 received r ram icons = (refused (r .check), record { state = r .state; event = r .event; ram = ram; icons = icons })
 

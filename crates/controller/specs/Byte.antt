@@ -27,7 +27,7 @@ abbrev pub waiting : Ready → Bool
 waiting Ready.Now = false
 waiting (Ready.At t) = true
 
--- what decides whether the scan runs and the glass is driven
+-- the conditions that decide whether the scan runs and the glass is driven
 abbrev pub conditionsOf : Power → Conditions
 conditionsOf p = record {
   «display_on» = p .«display_on»;

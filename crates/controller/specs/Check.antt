@@ -72,7 +72,7 @@ suppliedAt millivolts = leb 1650 millivolts
 unfoldable pub validPower : Power → Bool
 validPower p = Bool·beq (p .supplied) (suppliedAt (p .«supply_millivolts»))
 
--- what number 3 asks of the controller
+-- the condition of number 3 on the controller
 unfoldable pub validState : Nt7508 → Bool
 validState x =
     validSerial (x .serial)
@@ -85,7 +85,7 @@ validState x =
 unfoldable pub checkState : Nt7508 → Option ℕ
 checkState x = firstOf (row 3 (validState x)) (checkScan (x .scan))
 
--- what number 6 asks of a restored state: no clock later than now, no wait that ended before
+-- the condition of number 6 on a restored state: no clock later than now, no wait that ended before
 unfoldable pub clockNotLater : ScanClock → Time → Bool
 clockNotLater (ScanClock.Running c) now = leb (raw (c .at)) (raw now)
 clockNotLater ScanClock.Stopped now = true
@@ -97,7 +97,7 @@ readyNotEarlier Ready.Now now = true
 unfoldable pub restoreOk : Scan → Ready → Time → Bool
 restoreOk s ready now = clockNotLater (s .ticking .clock) now && readyNotEarlier ready now
 
--- what number 7 asks of a serial group: a count up to 8, and no bit set at or above it
+-- the condition of number 7 on a serial group: a count up to 8, and no bit set at or above it
 unfoldable pub groupOk : (bits count : ℕ) → Bool
 groupOk bits count = leb count 8 && ltb bits (2 ^ count)
 

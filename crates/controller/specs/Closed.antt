@@ -1,5 +1,5 @@
--- What the contracts of private functions cite: the rows of a group but for the scan's, whether it completes a byte, and what a byte
--- does to the registers that the scan reads. Nothing here is a rule; the laws show that it comes to what the rules say.
+-- Definitions that contracts of private functions cite: the rows of a group but for the scan's, whether it completes a byte, and
+-- what a byte does to the registers that the scan reads. Nothing here is a rule; the laws show that it comes to what the rules say.
 use Prim.Native.Nat.{ℕ, _+_}
 use mathlib.Core.Bool.{Bool, cond, _&&_}
 use mathlib.Core.List.{List}
@@ -52,6 +52,6 @@ powerBy (Pending.Command c) p b = p
 unfoldable pub powerThen : Serial → Power → (b : ℕ) → Power
 powerThen l p b = cond (l .«data») p (powerBy (l .pending) p b)
 
--- what the byte does to whether the scan runs
+-- whether the byte begins the scan, lets it run on or leaves it standing
 abbrev pub runningBy : Serial → Power → (b : ℕ) → Running
 runningBy l p b = runningAfter (runs (conditionsOf p)) (runs (conditionsOf (powerThen l p b)))

@@ -1,6 +1,7 @@
 -- Which bytes take the fast path (src/fast.rt): eight bits at once with none under way, data or a command that sets the address or
--- nothing, to a state whose checks pass and whose scan goes on as it did. What such a byte leaves is by the rules; that it is
--- what `shiftIn` (Bits.antt) leaves is a law (`fast-shift`, proofs/FastPath.antt). Of any other group the answer says only that it is another.
+-- nothing, to a state whose checks pass and whose scan goes on as it did. What such a byte leaves is by the rules; that it is what
+-- `shiftIn` (Bits.antt) leaves is a law (`fast-shift`, proofs/FastPath.antt). Of any other group the answer says only that it is
+-- another.
 use Prim.Native.Nat.{ℕ}
 use mathlib.Core.Bool.{Bool, true, false, cond, _&&_, _||_}
 use mathlib.Core.List.{List}
@@ -50,11 +51,11 @@ unfoldable pub isFastByte : Nt7508 → (b : ℕ) → Time → (ram icons : List 
 isFastByte x b now ram icons =
     registersStay x b now ram icons && isFast (x .scan) (x .display) now (staying (x .power)) ram icons
 
--- what is given, where a byte is another
+-- the answer for a byte that does not take the fast path: scan and address of the state, no event, no store
 abbrev pub notFast : Nt7508 → FastStep
 notFast x = record { fast = false; scan = x .scan; address = x .address; event = Event.None; store = Store.Nothing }
 
--- what the byte leaves, by the rules
+-- the answer of the fast path: scan, address, event and store of the byte, by the rules
 unfoldable pub fastStep : Nt7508 → (b : ℕ) → Time → (ram icons : List ℕ) → FastStep
 fastStep x b now ram icons =
     cond (isFastByte x b now ram icons)
@@ -67,7 +68,7 @@ fastStep x b now ram icons =
     })
     (notFast x)
 
--- what a byte that keeps the registers sets, as src/fast.rt puts it together
+-- the same of a byte that leaves every register but the address, as src/fast.rt puts it together
 unfoldable pub fastStepOf : Scan → Serial → Address → (b : ℕ) → Time → FastStep
 fastStepOf z l a b now =
     cond (l .«data»)

@@ -96,7 +96,7 @@ sent x command parameter now =
 abbrev pub commandEvent : (command parameter : ℕ) → Time → Event
 commandEvent command parameter now = Event.Control now command (Parameter.Byte parameter)
 
--- what a row says. Inversion is command 4C, duty is 48. Either is sent to any state, at any moment
+-- the meaning of a row. Inversion is command 4C, duty is 48. Either is sent to any state, at any moment
 unfoldable pub Holds : Figure → Type 0
 Holds (targetIs t slope regulator contrast v) =
     levelsAt t slope regulator contrast (powerOn .analog .booster) (powerOn .analog .bias) (powerOn .power .«supply_millivolts») .target ≡ v

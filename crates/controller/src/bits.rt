@@ -20,7 +20,7 @@ use crate::event::unstored;
 use crate::state::Nt7508;
 use clock::Time;
 
-// What bits do and what is to be stored; or the refusal and the state given.
+// The step that bits make, with the byte that is to be stored; or the refusal and the state given.
 pub struct Taken {
     pub check: Check,
     pub stepped: Stepped,
@@ -150,7 +150,7 @@ fn whole(state: Nt7508, bits: u8, count: u8, moment: Time, ram: &[u8], icons: &[
     }
 }
 
-// What a byte is to store goes into lent memory.
+// Stores the byte in lent memory, if there is one to be stored.
 pub(crate) fn keep(store: Store, ram: &mut [u8], icons: &mut [u8])
     ensures { λ _. ⌜ now (ram .exit) ≡ ramAfter store (now (ram .entry)) ⌝ }
     ensures { λ _. ⌜ now (icons .exit) ≡ iconsAfter store (now (icons .entry)) ⌝ }

@@ -45,7 +45,7 @@ pub(crate) fn is_waiting(ready: Ready) -> bool
     true
 }
 
-// What decides whether the scan runs and the glass is driven.
+// The conditions that decide whether the scan runs and the glass is driven.
 pub(crate) fn conditions_of(power: Power) -> Conditions
     ensures { λ r. ⌜ r ≡ conditionsOf power ⌝ }
 {
@@ -168,7 +168,7 @@ fn power_then(serial: Serial, power: Power, byte: u8) -> Power
     power_after(power, byte)
 }
 
-// What a byte does to whether the scan runs.
+// Whether a byte begins the scan, lets it run on or leaves it standing.
 fn running_by(serial: Serial, power: Power, byte: u8) -> Running
     ensures { λ r. ⌜ r ≡ runningBy serial power byte ⌝ }
 {

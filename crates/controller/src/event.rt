@@ -1,4 +1,4 @@
-// What a byte gives and is to store: the event for the listener, and the byte of lent memory.
+// The event that a byte gives to the listener, and the byte of lent memory that is to be stored.
 ghost use mathlib.Core.Path.{_≡_};
 ghost use Rattle.controller.specs.Event.{unstored as unstoredOf};
 use crate::state::Nt7508;

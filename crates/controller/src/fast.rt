@@ -59,7 +59,7 @@ fn keeps(serial: Serial, byte: u8) -> bool
     serial.data | (no_pending(pending) & addressing(byte))
 }
 
-// What is given, where a byte is another.
+// The answer for a byte that does not take the fast path.
 fn not_fast(state: Nt7508) -> FastStep
     ensures { λ r. ⌜ r ≡ notFast state ⌝ }
 {
@@ -74,7 +74,7 @@ fn not_fast(state: Nt7508) -> FastStep
     }
 }
 
-// What a byte that keeps the registers sets, with the scan after it.
+// The answer for a byte that leaves every register but the address, with the scan after it.
 fn fast_step(scan: Scan, serial: Serial, address: Address, byte: u8, now: Time) -> FastStep
     ensures { λ r. ⌜ r ≡ fastStepOf scan serial address byte now ⌝ }
 {

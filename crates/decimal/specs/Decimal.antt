@@ -26,7 +26,7 @@ spelt (b ∷ rest) n = cond (isDigit b) (spelt rest (n * 10 + (b - 48))) n
 abbrev pub wellFormed : (first count : ℕ) → Bool
 wellFormed first count = ltb 0 count && (not (eqb first 48) || eqb count 1)
 
--- what they spell, if they are one
+-- the number that they spell, if they are a decimal
 abbrev pub numberOf : (first count value next : ℕ) → Read
 numberOf first count value next = cond (wellFormed first count) (Read.Number value next) Read.Malformed
 

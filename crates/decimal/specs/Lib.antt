@@ -1,3 +1,3 @@
--- What a text says, as far as decimals go, and decimals printed.
+-- Decimals, read out of a text and printed.
 pub mod Decimal
 pub mod Print

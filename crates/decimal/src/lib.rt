@@ -36,7 +36,7 @@ fn is_digit(byte: u8) -> bool
     (48 <= byte) & (byte <= 57)
 }
 
-// What so many digits with this first one spell, if they are a decimal.
+// The number that so many digits with this first one spell, if they are a decimal.
 fn number_of(first: u8, count: usize, value: u64, next: usize) -> Read
     ensures { λ r. ⌜ r ≡ numberOf first count value next ⌝ }
 {
@@ -86,7 +86,7 @@ pub fn field(s: &[u8], at: usize, end: u8) -> Read
     Read::Malformed
 }
 
-// What stands behind a number that has so many behind it: a newline after the last, else a space.
+// The byte behind a number that has so many behind it: a newline after the last, else a space.
 fn byte_after(left: usize) -> u8
     ensures { λ r. ⌜ r ≡ separator left ⌝ }
 {

@@ -38,7 +38,7 @@ clockWords c =
     ∷ c .ordinal
     ∷ []
 
--- what `passed_to` gives: how many edges, and the words of the clock
+-- the answer of `passed_to`: how many edges, and the words of the clock
 abbrev pub passedCount : ℕ × Clock → ℕ
 passedCount p = p .0
 

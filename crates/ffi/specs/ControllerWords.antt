@@ -24,7 +24,7 @@ use Rattle.controller.specs.Look.{voltagesOf, driveOf, renderOf, serialEffectEd
 use Rattle.ffi.specs.ClockWords.{time}
 use Rattle.ffi.specs.StateWords.{holdsState, stateOf}
 
--- what a call answers for the state of a block; where it holds none, number 20 and what was given
+-- the answer of a call for the state of a block; where the block holds none, number 20 and the value given
 abbrev pub onBlock : {A : Type 0} → (w : List ℕ) → Option ℕ × A → (given : A) → Option ℕ × A
 onBlock w r given = cond (holdsState w) r (some 20, given)
 

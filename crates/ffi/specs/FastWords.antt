@@ -1,5 +1,5 @@
--- What src/fast_words.rt tests of a block before the fast path of a byte, and the words that it then puts there. Nothing here is a rule; proofs/Moved.antt
--- shows that the block then has the words of the state that the byte leaves.
+-- The tests that src/fast_words.rt makes of a block before the fast path of a byte, and the words that it then puts there. Nothing
+-- here is a rule; proofs/Moved.antt shows that the block then has the words of the state that the byte leaves.
 use Prim.Native.Nat.{ℕ}
 use mathlib.Core.Bool.{Bool, true, cond, not, _&&_, _||_}
 use mathlib.Core.List.{List}

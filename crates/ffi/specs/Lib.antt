@@ -1,4 +1,4 @@
--- What crosses to callers in other languages, as words, in the terms of each layer.
+-- The words that cross to callers in other languages, in the terms of each layer.
 pub mod ClockWords
 pub mod ControllerWords
 pub mod DriveWords

@@ -18,7 +18,7 @@ abbrev pub refusalLine : Option (ℕ × ℕ) → ℕ
 refusalLine none = 0
 refusalLine (some at) = at .1
 
--- what a call answers and what all that is lent holds after it
+-- the status of a call, and everything that is lent as it stands after it
 pub record Answered : Type 0 where
   pub status : ℕ
   pub state : List ℕ

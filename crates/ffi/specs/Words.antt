@@ -1,5 +1,5 @@
--- What a call from another language answers and leaves: 0 and the words of its value, or the number of its refusal and the
--- words as they were.
+-- The status of a call from another language, and the words that it leaves: 0 and the words of its value, or the number of its
+-- refusal and the words as they were.
 use Prim.Native.Nat.{ℕ}
 use mathlib.Core.Logic.{_⊎_, inl, inr}
 use mathlib.Core.Option.{Option, none, some}
@@ -13,7 +13,7 @@ abbrev pub checkStatus : Option ℕ → ℕ
 checkStatus none = 0
 checkStatus (some n) = n
 
--- what lent memory with the bytes `before` has after the call, which puts its value there by `words`
+-- lent memory after a call that puts its value there by `words`; `before` is the memory before it
 abbrev pub stored : {A B : Type 0} → (words : A → B) → ℕ ⊎ A → (before : B) → B
 stored words (inl n) before = before
 stored words (inr a) before = words a

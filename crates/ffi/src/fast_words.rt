@@ -53,7 +53,7 @@ fn clock_zero(w: &[u64]) -> bool
         & (w[8] == 0)
 }
 
-// What the controller answers for the state of a block.
+// The controller's answer for the state of a block.
 fn fast_step_of(w: &[u64], byte: u8, moment: Time, ram: &mut [u8], icons: &mut [u8]) -> FastStep
     requires { ⌜ length (now w) ≡ 75 ⌝ }
     ensures tells { λ r. ⌜ r ≡ fastStep (stateOf (now (w .entry))) byte moment (now (ram .entry)) (now (icons .entry)) ⌝ }

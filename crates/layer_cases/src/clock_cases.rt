@@ -25,7 +25,7 @@ fn print_edges(clock: Clock, rate: Rate, now: Time) {
     io::write_all(STDOUT_FILENO, b"\n");
 }
 
-// What is answered, and the clock that is left.
+// The answer, and the clock that is left.
 struct Advanced {
     check: Check,
     clock: Clock,

@@ -1,4 +1,4 @@
--- What the panel shows at the end of a session, as the bytes of a PGM picture. PGM counts grays from 0, black, and has the rows from
+-- The panel at the end of a session, as the bytes of a PGM picture. PGM counts grays from 0, black, and has the rows from
 -- the upper one down, each from left to right, as the image has.
 use Prim.Native.Nat.{ℕ, _-_}
 use mathlib.Core.List.{List, [], _∷_, _++_, map}

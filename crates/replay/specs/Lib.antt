@@ -1,4 +1,4 @@
--- What the lists of the original's answers are made by, and how they are counted.
+-- The rules by which the lists of the original's answers are made, and the tally of their cases.
 pub mod Cases
 pub mod Rules
 pub mod Tally

@@ -1,4 +1,4 @@
-// What the programs share that replay the lists of the original's answers: the case of a line, the rules
+// Shared by the programs that replay the lists of the original's answers: the case of a line, the rules
 // by which a list makes memory, sums up long answers and writes temperatures, and the tally.
 mod cases;
 mod rules;

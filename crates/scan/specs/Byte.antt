@@ -1,5 +1,5 @@
--- What the contracts of src/byte.rt cite: what a byte leaves of the scan as it is, so that nothing need be done after it. Nothing
--- here is a rule; the rule of a byte is `byteScan` (Run.antt).
+-- Definitions that contracts of src/byte.rt cite: the tests by which a byte leaves the counted scan as it is. Nothing here is a
+-- rule; the rule of a byte is `byteScan` (Run.antt).
 use Prim.Native.Nat.{_%_}
 use mathlib.Core.Bool.{Bool, true, false, not, _&&_, _||_, Bool·beq}
 use lib.Dec.{eqb}

@@ -44,7 +44,7 @@ answered r = (refused (r .check), r .scan)
 unfoldable pub linesOk : ℕ → Bool
 linesOk n = eqb n 0 || (leb 3 n && leb n 33)
 
--- what number 3 asks of the display registers
+-- the condition of number 3 on the display registers
 unfoldable pub validSettings : Settings → Bool
 validSettings s =
     ltb (s .«start_line») 128
@@ -56,7 +56,7 @@ validSettings s =
     && leb (s .«oscillator_control») 3
     && leb (s .«oscillator_frequency») 31
 
--- what number 4 asks of the scan
+-- the condition of number 4 on the scan
 unfoldable pub frcCountOk : ℕ → Bool
 frcCountOk n = eqb n 3 || eqb n 4
 
@@ -84,7 +84,7 @@ validScan x =
     && ltb (x .row) (rows x)
     && validInversion (x .inversion)
 
--- what number 5 asks of the scan's clock
+-- the condition of number 5 on the scan's clock
 unfoldable pub validRunning : ScanClock → Rate → Bool
 validRunning (ScanClock.Running c) r = validClock c r
 validRunning ScanClock.Stopped r = true
@@ -93,11 +93,11 @@ validRunning ScanClock.Stopped r = true
 unfoldable pub checkScan : Scan → Option ℕ
 checkScan x = firstOf (row 4 (validScan x)) (row 5 (validRunning (x .ticking .clock) (x .ticking .rate)))
 
--- what number 2 asks of lent memory
+-- the condition of number 2 on lent memory
 unfoldable pub memoryOk : (ram icons : List ℕ) → Bool
 memoryOk ram icons = eqb (length ram) 4096 && eqb (length icons) 256
 
--- what number 8 asks of a lent image
+-- the condition of number 8 on a lent image
 unfoldable pub imageOk : (bytes : ℕ) → Bool
 imageOk bytes = eqb bytes 6144
 

@@ -1,5 +1,5 @@
--- What the contracts of src/closed.rt cite: n quanta at once by division and remainder. Nothing here is a rule; that it comes to n
--- quanta one after another is a law (proofs/Quanta.antt).
+-- Definitions that contracts of src/closed.rt cite: n quanta at once by division and remainder. Nothing here is a rule; that it
+-- comes to n quanta one after another is a law (proofs/Quanta.antt).
 use Prim.Native.Nat.{ℕ, zero, suc, _+_, _/_, _%_}
 use mathlib.Core.Bool.{Bool, false, cond, not}
 use lib.Dec.{eqb}

@@ -37,11 +37,11 @@ countFor (suc k) x s now = cond (due x now) (countFor k (quantum x s) s now) x
 unfoldable pub countTo : Scan → Settings → Time → Scan
 countTo x s now = countFor (raw now + 1) x s now
 
--- what a row end takes is in force
+-- the settings that a row end takes are in force
 unfoldable pub rowSame : Scan → Settings → Bool
 rowSame x s = eqb (pwmOf (s .«gray_mode»)) (x .pwm) && eqb (s .«inversion_lines») (x .inversion .lines)
 
--- what a frame end takes is in force
+-- the settings that a frame end takes are in force
 unfoldable pub sameFrame : Frame → Frame → Bool
 sameFrame f g =
     eqb (f .duty) (g .duty)

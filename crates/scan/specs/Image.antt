@@ -70,6 +70,6 @@ imageRow s lit ram y = upTo (pixel s lit ram y) 96
 unfoldable pub image : Settings → (driven : Bool) → (ram : List ℕ) → List ℕ
 image s driven ram = rowsUpTo (imageRow s (litBy s driven) ram) 64
 
--- what the call leaves in the lent image: where it is turned down no lent byte changes
+-- the lent image after the call: where it is turned down no lent byte changes
 unfoldable pub rendered : Settings → (driven : Bool) → (ram icons before : List ℕ) → List ℕ
 rendered s driven ram icons before = unlessRefused (checkImage s ram icons (length before)) (image s driven ram) before

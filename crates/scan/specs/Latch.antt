@@ -37,7 +37,7 @@ words f = word f 0 64 ∷ word f 64 64 ∷ []
 unfoldable pub presentLatch : Scan → Settings → (ram icons : List ℕ) → List ℕ
 presentLatch x s ram icons = words (segmentActive x s ram icons)
 
--- what is shown: the latch that is retained, else that of present memory and settings
+-- the segments shown: the latch that is retained, else that of present memory and settings
 unfoldable pub shown : Scan → Settings → (ram icons : List ℕ) → List ℕ
 shown x s ram icons = cond (x .latch .latched) (x .latch .segments) (presentLatch x s ram icons)
 

@@ -1,5 +1,5 @@
--- What the contracts of src/paint.rt cite: the levels of a row's segments from its bits. Nothing here is a rule; that they come to
--- the image of the rule is a law (proofs/Images.antt).
+-- Definitions that contracts of src/paint.rt cite: the levels of a row's segments from its bits. Nothing here is a rule; that they
+-- come to the image of the rule is a law (proofs/Images.antt).
 use Prim.Native.Nat.{ℕ}
 use mathlib.Core.Bool.{Bool}
 use mathlib.Core.List.{List, [], _∷_}

@@ -1,5 +1,5 @@
--- What the contracts of src/planes.rt cite: a row's bits, the shade that two of them show, and the planes of eight segments in a
--- word. Nothing here is a rule.
+-- Definitions that contracts of src/planes.rt cite: a row's bits, the shade that two of them show, and the planes of eight segments
+-- in a word. Nothing here is a rule.
 use Prim.Native.Nat.{ℕ, _+_, _-_, _*_, _<_}
 use mathlib.Core.Bool.{Bool, cond}
 use mathlib.Core.List.{List}

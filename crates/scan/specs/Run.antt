@@ -22,7 +22,7 @@ use Rattle.scan.specs.Check.{validSettings, checkMoment, checkLent}
 use Rattle.scan.specs.Count.{countTo}
 use Rattle.scan.specs.Latch.{latchRetained, retained}
 
--- what a byte does to the scan, by whether it ran before and runs after
+-- the effect of a byte on the scan's running, by whether it ran before and runs after
 abbrev pub runningAfter : (was runs : Bool) → Running
 runningAfter was runs = cond runs (cond was Running.Continues Running.Begins) Running.Stands
 

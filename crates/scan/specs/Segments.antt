@@ -1,5 +1,5 @@
--- What the contracts of src/segments.rt cite: the activity of a row's segments from its planes, as words. Nothing here is a rule;
--- that it comes to the latch of the rule is a law (proofs/Latches.antt, Packing.antt).
+-- Definitions that contracts of src/segments.rt cite: the activity of a row's segments from its planes, as words. Nothing here is a
+-- rule; that it comes to the latch of the rule is a law (proofs/Latches.antt, Packing.antt).
 use Prim.Native.Nat.{ℕ, _/_, _%_}
 use mathlib.Core.Bool.{Bool, false, cond}
 use mathlib.Core.List.{List, [], _∷_}

@@ -1,5 +1,5 @@
--- What the contracts of src/stretch.rt cite: the quanta for which the clock is asked once, at one rate. Nothing here is a rule;
--- that stretches come to the count of the rule is a law (proofs/Stretches.antt).
+-- Definitions that contracts of src/stretch.rt cite: the quanta for which the clock is asked once, at one rate. Nothing here is a
+-- rule; that stretches come to the count of the rule is a law (proofs/Stretches.antt).
 use Prim.Native.Nat.{ℕ, _+_, _<_, min}
 use mathlib.Core.Bool.{Bool, true, cond, _&&_}
 use mathlib.Core.Option.{Option}

@@ -1,4 +1,4 @@
-// What a whole byte does to the scan, in one call with one check of the scan. Most bytes leave a counted
+// A whole byte's effect on the scan, in one call with one check of the scan. Most bytes leave a counted
 // scan as it is, which costs less to find out than to do. Document 01, 'Scan'.
 ghost use mathlib.Core.Path.{_≡_};
 ghost use mathlib.Core.Bool.{true};

@@ -96,7 +96,7 @@ fn check_of(number: u8) -> Check
     Check::Refused(Refusal::Clock)
 }
 
-// What a frame end took is in range.
+// Whether the frame settings are in range.
 fn valid_frame(frame: Frame) -> bool
     ensures { λ r. ⌜ r ≡ validFrame frame ⌝ }
 {

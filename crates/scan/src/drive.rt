@@ -1,4 +1,4 @@
-// What the controller drives the electrodes of the glass with at a moment, and the voltage of each
+// The drive: the levels that the electrodes of the glass get at a moment, and the voltage of each
 // electrode. Document 01, 'Drive, electrodes, image'.
 ghost use mathlib.Core.Path.{_≡_};
 ghost use mathlib.Core.Bool.{true, cond};
@@ -22,7 +22,7 @@ use voltage::LcdVoltages;
 use voltage::Level;
 use voltage::Supply;
 
-// What else decides whether the glass is driven.
+// The conditions, besides the settings, that decide whether the glass is driven.
 pub struct Conditions {
     pub display_on: bool,
     pub oscillator_enabled: bool,

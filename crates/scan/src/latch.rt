@@ -46,7 +46,7 @@ pub(crate) fn present_latch(scan: Scan, settings: Settings, ram: &[u8], icons: &
     )
 }
 
-// What is shown: the latch that is retained, or else the present one.
+// The segments shown: the latch that is retained, or else the present one.
 pub(crate) fn shown(scan: Scan, settings: Settings, ram: &[u8], icons: &[u8]) -> [u64; 2]
     requires { ⌜ scan .frc < 4 ⌝ }
     requires { ⌜ length (now ram) ≡ 4096 ⌝ }

@@ -1,4 +1,4 @@
-// What a byte, a warm rise or a fall does to the scan. Document 01, 'Scan'. The moment of a call is
+// The effect of a byte, a warm rise or a fall on the scan. Document 01, 'Scan'. The moment of a call is
 // `moment` where memory is lent, since a clause reads lent memory by `now`.
 ghost use mathlib.Core.Path.{_≡_};
 ghost use mathlib.Core.Bool.{true};
@@ -28,7 +28,7 @@ use crate::state::start_clock;
 use crate::state::with_ticking;
 use clock::Time;
 
-// What a byte does to the scan: it makes it run, leaves it running, or the scan does not run.
+// The effect of a byte on the scan: it makes it run, leaves it running, or the scan does not run.
 pub enum Running {
     Begins,
     Continues,

@@ -19,7 +19,7 @@ pub struct Settings {
     pub oscillator_frequency: u8,
 }
 
-// What a frame end takes from the settings, and the scan holds until the next.
+// The settings that a frame end takes, and the scan holds until the next.
 pub struct Frame {
     pub duty: u8,
     pub icon: bool,

@@ -37,7 +37,7 @@ pub struct Inversion {
     pub inverted: bool,
 }
 
-// What the scan holds: the settings in force since the last frame or row end, the counters, and the
+// The scan: the settings in force since the last frame or row end, the counters, and the
 // output latch.
 pub struct Scan {
     pub ticking: Ticking,

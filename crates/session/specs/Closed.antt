@@ -35,7 +35,7 @@ abbrev pub judged : Verdict → Option ℕ
 judged Verdict.Passed = none
 judged (Verdict.Refused why) = some (number why)
 
--- what a line showed, as text; a refused line shows nothing
+-- the text that a line showed; a refused line shows none
 abbrev pub shownText : (us : ℕ) → Shown → List ℕ
 shownText us Shown.Nothing = []
 shownText us (Shown.Drive r) = driveLine us r
@@ -60,7 +60,7 @@ unfoldable pub waitedOf : Nt7508 → Ready → Time → Option ℕ × Nt7508
 waitedOf x Ready.Now now = (none, x)
 waitedOf x (Ready.At t) now = cond (leb (raw t) (raw now)) (atDeadline x t) (none, x)
 
--- what a line leaves
+-- the machine after a line
 abbrev pub machineOf : Nt7508 → (ram icons : List ℕ) → Machine
 machineOf x ram icons = record { state = x; ram = ram; icons = icons }
 

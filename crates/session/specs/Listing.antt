@@ -50,7 +50,7 @@ abbrev pub frameField : Common → (frame : ℕ) → Field
 frameField (Common.Selected n) frame = Field.Number frame
 frameField Common.None frame = Field.Nothing
 
--- what is printed of a drive
+-- the fields that are printed of a drive
 abbrev pub rowOf : LcdDrive → (frame : ℕ) → Row
 rowOf d frame = record { common = d .common; inverted = d .inverted; v0 = d .voltages .v0; lit = litOf (d .segments); frame = frame }
 

@@ -71,7 +71,7 @@ wellFormed Action.Update = true
 wellFormed Action.Drive = true
 wellFormed Action.Malformed = false
 
--- what a call answers and leaves, where there is one
+-- the reply of a line's call and the machine after it, where there is a call
 abbrev pub refusalOf : Option Call → Machine → Option ℕ
 refusalOf none m = none
 refusalOf (some c) m = refusal (reply c m)

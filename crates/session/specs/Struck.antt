@@ -44,7 +44,7 @@ unfoldable pub struckText : (text : List ℕ) → (marks : List Bool) → List �
 struckText text ks = namesLine ++ joined (keptLines (linesBehind text) ks)
 
 -- ---- 'provided that'
--- what a struck line strikes: an update, or all eight bits of a byte; no other line can be struck
+-- the call or bits that a struck line strikes: an update, or all eight bits of a byte; no other line can be struck
 abbrev pub struckOf : (now : Time) → Action → Option Marked
 struckOf now (Action.Byte value) = some (Marked.Bits now 8 value (replicate 8 true))
 struckOf now (Action.Data on) = none

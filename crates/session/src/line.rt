@@ -9,7 +9,7 @@ ghost use Rattle.session.specs.Closed.{NumberUpTo};
 use crate::text::starts;
 use decimal::Read;
 
-// What a word and its value ask for.
+// The action that a word and its value ask for.
 pub enum Action {
     Byte(u8),
     Data(bool),

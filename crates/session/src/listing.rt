@@ -16,7 +16,7 @@ pub enum Field {
     Nothing,
 }
 
-// What is printed of a drive.
+// The fields that are printed of a drive.
 pub struct Row {
     pub lit: u64,
     pub common: Common,
@@ -87,7 +87,7 @@ fn frame_field(common: Common, frame: u16) -> Field
     Field::Number(frame as u64)
 }
 
-// What is printed of a drive.
+// The fields that are printed of a drive.
 pub(crate) fn row_of(drive: LcdDrive, frame: u16) -> Row
     ensures { λ r. ⌜ r ≡ rowOf drive frame ⌝ }
 {

@@ -54,7 +54,7 @@ enum Verdict {
     Refused(Why),
 }
 
-// What a line gives to print.
+// The reply of a line that is to be printed, if any.
 enum Shown {
     Nothing,
     Drive(Row),

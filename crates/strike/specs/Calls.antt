@@ -40,7 +40,7 @@ pub record Machine : Type 0 where
 abbrev pub start : (ram icons : List ℕ) → Machine
 start ram icons = record { state = powerOn; ram = ram; icons = icons }
 
--- what a call answers: the number of its refusal, if any, and what it gives
+-- the reply of a call: the number of its refusal, if any, and the value that it gives
 pub data Reply : Type 0 where
   Told : Option ℕ → Event → Reply
   Done : Option ℕ → Reply
@@ -61,7 +61,7 @@ reply (Drive now) m = let r = driveOf (m .state) now (m .ram) (m .icons) in Driv
 reply (Image pixels) m = let r = renderOf (m .state) (m .ram) (m .icons) pixels in Painted (r .0) (r .1)
 reply Voltages m = Levels (voltagesOf (m .state))
 
--- what it leaves: the state, and RAM and icons, which only bits can change. Drive, image and voltages look and leave all
+-- the machine after it: the state, and RAM and icons, which only bits can change. Drive, image and voltages look and leave all
 abbrev pub withState : Machine → Nt7508 → Machine
 withState m x = record { state = x; ram = m .ram; icons = m .icons }
 

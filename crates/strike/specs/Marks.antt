@@ -9,8 +9,8 @@ use Rattle.controller.specs.Check.{groupOk}
 use Rattle.controller.specs.Bits.{unpacked}
 use Rattle.strike.specs.Calls.{Call}
 
--- what is struck of a call: nothing; all of an update; the marked bits of a group, oldest first (where the marks end, no bit
--- is struck)
+-- a call, and the part of it that is struck: nothing; all of an update; the marked bits of a group, oldest first (where the marks
+-- end, no bit is struck)
 pub data Marked : Type 0 where
   Whole : Call → Marked
   Update : (now : Time) → Marked
@@ -67,7 +67,7 @@ packed (b ∷ bs) = cond b (2 ^ length bs) 0 + packed bs
 unfoldable pub groupCall : Time → List Bool → Call
 groupCall now bs = Call.Bits now (length bs) (packed bs)
 
--- what is left of a call that is not gone
+-- the rest of a call that is not gone
 unfoldable pub left : Marked → Call
 left (Marked.Whole c) = c
 left (Marked.Update now) = Call.Update now

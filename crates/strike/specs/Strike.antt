@@ -3,7 +3,7 @@
 -- Each call that stays gives the same event, drive, image, V0 to V4, electrode voltages and refusal as in the full list, apart
 -- from the struck commands' own events.
 --
--- What the statement stands on: Calls.antt (the calls; what each answers and leaves, by the controller's definitions), Marks.antt
+-- The statement stands on: Calls.antt (the calls; what each answers and leaves, by the controller's definitions), Marks.antt
 -- (the full and the kept list), Line.antt (what may be struck, followed from the calls alone). The proof is proofs/Struck.antt.
 use Prim.Native.Nat.{ℕ}
 use mathlib.Core.Bool.{Bool, true, false, cond, not, _&&_, _||_}
@@ -48,7 +48,7 @@ without ok l (Marked.Whole c) r = r
 without ok l (Marked.Update now) r = r
 without ok l (Marked.Bits now count bits marks) r = cond (accepted ok now count bits && endsStruck l (groupOf count bits marks)) (eventless r) r
 
--- what the calls that stay are to answer, out of the replies of the full list
+-- the replies that the calls which stay are to give, out of those of the full list
 unfoldable pub expected : (memoryOk : Bool) → Line → List Marked → List Reply → List Reply
 expected ok l [] rs = []
 expected ok l (m ∷ ms) [] = []

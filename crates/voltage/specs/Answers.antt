@@ -1,4 +1,4 @@
--- What the answers say in document 01's terms: the number of a refusal, and the voltages.
+-- The answers in document 01's terms: the number of a refusal, and the voltages.
 use Prim.Native.Nat.{ℕ}
 use mathlib.Core.Logic.{_⊎_, inl, inr}
 use Rattle.checks.specs.Checks.{answer}

@@ -20,7 +20,7 @@ pub record PairFits (s : Settings) (temperature : ℤ) (low high : ℕ) (regulat
   pub contrast-below : contrast < 64
   pub in-band : inBand low high (targetAt s temperature regulator contrast) ≡ true
 
--- what an answer says: that a pair fits, or that none of the 512 does, or the refusal of the settings
+-- the meaning of an answer: that a pair fits, or that none of the 512 does, or the refusal of the settings
 abbrev pub Says : Settings → ℤ → ℕ → ℕ → Found → Type 0
 Says s temperature low high (Setting regulator contrast) =
     (validSettings s ≡ true) × PairFits s temperature low high regulator contrast

@@ -24,7 +24,7 @@ pub struct Settings {
     pub otp_control: u8,
 }
 
-// What else the voltages read. `waiting` is the wait after a cold rise of the supply.
+// The inputs of the voltages besides the settings. `waiting` is the wait after a cold rise of the supply.
 pub struct Supply {
     pub temperature_millicelsius: i32,
     pub supply_millivolts: u16,

@@ -56,7 +56,7 @@ pub(crate) fn temperature_factor(slope: u8, temperature: i32) -> u64
     falling(above, 50)
 }
 
-// What the contrast is added to: 147 and the trim.
+// The number to which the contrast is added: 147 and the trim.
 pub(crate) fn base_of(contrast_trim: u8, otp_control: u8) -> u64
     requires { ⌜ «contrast_trim» ≤ 15 ⌝ }
     ensures exact { λ r. ⌜ pos r ≡ pos 147 +ℤ trim «otp_control» «contrast_trim» ⌝ }
