@@ -1,4 +1,4 @@
--- What the crates above may use: the LCD rates, number 5's conditions, the clock's laws, what its calls answer.
+-- For the crates above: the LCD rates, number 5's conditions, the clock's laws, what its calls answer.
 mod Words
 mod Times
 mod Positions

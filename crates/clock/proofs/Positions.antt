@@ -1,4 +1,4 @@
--- What the clock's code computes with words is what its definitions say: the period's check, the ordinal's check, the
+-- The clock's code computes with words what its definitions say: the period's check, the ordinal's check, the
 -- edge count and the move.
 use Prim.Native.Nat.{ℕ, _+_, _-_, _*_, _/_, _%_, _^_, _≤_, _<_}
 use mathlib.Core.Bool.{true, false, _&&_}

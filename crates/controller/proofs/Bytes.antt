@@ -33,7 +33,7 @@ use Rattle.controller.specs.Byte.{conditionsOf, nextColumn, pageSent, da
 use Rattle.controller.proofs.Checks.{Valid, valid, valid-check, called, called-check, with-scan-valid}
 use Rattle.controller.proofs.Registers.{command-valid}
 
--- what holds of both steps holds of the one that a test picks
+-- a property of both steps is one of the step that a test picks
 picked : (P : Stepped → Type 0) (t : Bool) {a b : Stepped} → P a → P b → P (cond t a b)
 picked P true p q = p
 picked P false p q = q
@@ -52,7 +52,7 @@ command-stores x (Pending.Command c) b now = refl
 command-stores x Pending.None b now = picked (λ (s : Stepped). s .store ≡ Store.Nothing) (awaits b) refl refl
 
 module _ (x : Nt7508) (b : ℕ) (now : Time) (ram icons : List ℕ) where
-  -- what a step leaves is the same by memory with the byte in it and without
+  -- a step leaves the same by memory with the byte in it and without
   Unread : Stepped → Type 0
   Unread s =
       settledBy (runs (conditionsOf (x .power))) s now (ramAfter (s .store) ram) (iconsAfter (s .store) icons)
@@ -123,7 +123,7 @@ module _ (x : Nt7508) (now : Time) (ram icons : List ℕ) (h : checkLent x now r
       with-scan-valid x v _ (retained-check y (x .display) ram icons (pageSent x) ∙ scans.valid-check y counted)
 
   module _ (b : ℕ) (l : b < 256) where
-    -- what the byte's own step leaves passes the checks of the call
+    -- the state that the byte's own step leaves passes the checks of the call
     pub step-called : checkLent (stepOf (found x now ram icons) b now .state) now ram icons ≡ none
     step-called =
         let k = called x now ram icons h in

@@ -1,4 +1,4 @@
--- What the crates above may use: the conditions of the checks, what bytes and calls leave, and the edge figures.
+-- For the crates above: the conditions of the checks, what bytes and calls leave, and the edge figures.
 pub mod Checks
 pub mod PowerOn
 pub mod Registers

@@ -137,7 +137,7 @@ store-outside a b z s ram icons h = go (eqb (a .page) 16) refl
         data-outside z s ram icons (a .page) (a .page % 16 * 256 + a .«column_byte» % 256) b (eqb-false (a .page) 16 e)
         (digits-div (a .page % 16) (mod-lt (a .«column_byte») {m = 256} (omega arith))) h
 
--- what is stored leaves the lengths of memory
+-- a store leaves the lengths of memory
 pub stored-memory : (s : Store) (ram icons : List ℕ) → memoryOk (ramAfter s ram) (iconsAfter s icons) ≡ memoryOk ram icons
 unfolding memoryOk
 stored-memory Store.Nothing ram icons = refl

@@ -191,7 +191,7 @@ module _ (x : Nt7508) (v : Valid x) where
     scan = v .scan;
   }
 
--- what holds after a parameter, after a byte that awaits one and after any other byte holds after a command byte
+-- a property after a parameter, after a byte that awaits one and after any other byte is one after a command byte
 module _ (x : Nt7508) (b : ℕ) (now : Time) where
   stepped : (P : Nt7508 → Type 0) → ((c : ℕ) → P (parameterTaken x c b)) → (awaits b ≡ true → P (withSerial x (withPending (x .serial) (Pending.Command b)))) → P (acted x b) → P (commandStep x (x .serial .pending) b now .state)
   unfolding commandStep

@@ -96,7 +96,7 @@ bits-registers x s k l h =
     let p = both (ltb (x .serial .bits) 8) (validPending (x .serial .pending)) (v .serial) in
     simp (lt-ltb k 8 l, p .1, v .address, v .display, v .analog, v .power)
 
--- what a byte leaves of the display registers is valid, whatever the scan
+-- the display registers after a byte are valid, whatever the scan
 display-valid : (x : Nt7508) (b : ℕ) (now : Time) → b < 256 → validState x ≡ true → display.validSettings (stepOf x b now .state .display) ≡ true
 unfolding withScan
 display-valid x b now l h =

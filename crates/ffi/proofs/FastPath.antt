@@ -72,7 +72,7 @@ module _ (x : Nt7508) (b : ℕ) (now : Time) (ram icons : List ℕ) where
   unfolding isFastByte completes
   fast-ready h = taking-now x (both (taking x) (leb 8 (x .serial .bits + 8)) (stays x b now ram icons (both (registersStay x b now ram icons) _ h .0) .whole) .0)
 
--- what is put into the block is what the group leaves
+-- the block then has the words of the state that the group leaves
 module _ (w : List ℕ) (b count : ℕ) (now : Time) (ram icons : List ℕ) (small : b < 256) (eight : count ≡ 8) {s : FastStep} (is : s ≡ fastStep (stateOf w) b now ram icons) (taken : s .fast ≡ true) where
   pub fast-shifts : shiftIn (stateOf w) b count now ram icons ≡ (none, leftBy (stateOf w) s ram icons)
   fast-shifts =

@@ -106,7 +106,7 @@ put-drawn text out h =
     let all = drawn text in
     put-whole all out 0 (omega (arith, drawn-fits text)) ∙ (λ i. (all ++ drop (zero-add (length all) i) out, zero-add (length all) i))
 
--- what was written lies within the lent bytes
+-- the bytes written lie within the lent ones
 pub written-fits : (out bytes : List ℕ) {out′ : List ℕ} {count : ℕ} → _≡_ {A = List ℕ × ℕ} (out′, count) (written out bytes) → count ≤ length out′
 unfolding written
 written-fits out bytes e =

@@ -1,5 +1,5 @@
 -- Two scans that agree: counted to a moment and with their latches retained, they are equal. Counting, retaining the latch, stopping
--- and resuming, and bytes keep two scans agreeing, and what agrees has the same drive. The claim over lists of calls (crate
+-- and resuming, and bytes keep two scans agreeing, and scans that agree have the same drive. The claim over lists of calls (crate
 -- strike) goes by this.
 use Prim.Native.Nat.{ℕ, zero, suc, _+_, _%_, _≤_}
 use mathlib.Core.Bool.{Bool, true, false, cond, _||_}
@@ -131,7 +131,7 @@ module _ (s : Settings) (ram icons : List ℕ) where
   resumed-as-shown x now true = clocked-as-shown (cleared x s) now ∙ ap (λ (z : Scan). clocked z s now) (cleared-as-shown x)
   resumed-as-shown x now false = stopped-as-shown (cleared x s) ∙ ap stopped (cleared-as-shown x)
 
-  -- what does not read the latch takes scans that are the same as shown to scans that agree
+  -- a function that does not read the latch takes scans that are the same as shown to scans that agree
   module _ (f : Scan → Scan) (past : (z : Scan) → asShown (f z) s ram icons ≡ f (asShown z s ram icons)) (x y : Scan) (e : asShown x s ram icons ≡ asShown y s ram icons) (now : Time) where
     through : Agree (f x) (f y) s now ram icons
     through = on x ∙ ap (λ (z : Scan). asShown (countTo (f z) s now) s ram icons) e ∙ sym (on y)

@@ -46,7 +46,7 @@ tick-later (ScanClock.Running c) r new l now d = go (sameRate r new)
     go true = edge-later c r (lcd-bounds r l)
     go false = rw (started-at (movedBy c r 1 .at) new) (edge-later c r (lcd-bounds r l))
 
--- what is due is due at any later moment
+-- an edge that is due is due at any later moment
 due-later : (x : Scan) (t u : Time) → raw t ≤ raw u → due x t ≡ true → due x u ≡ true
 unfolding due dueAt
 due-later x t u h d = at-clock (x .ticking .clock) (x .ticking .rate) d

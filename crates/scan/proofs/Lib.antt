@@ -1,4 +1,4 @@
--- What the crates above may use: the conditions of the checks, what the calls answer, counting, shades, latch, drive and image.
+-- For the crates above: the conditions of the checks, what the calls answer, counting, shades, latch, drive and image.
 mod Numbers
 mod Quanta
 mod Pieces

@@ -26,7 +26,7 @@ use Rattle.scan.specs.declared.state.ScanClock.{ScanClock}
 use Rattle.scan.specs.declared.state.Ticking.{Ticking}
 use Rattle.scan.specs.declared.state.Inversion.{Inversion}
 
--- what a row end takes is in force
+-- the settings that a row end takes are in force
 pub record RowSettled (x : Scan) (s : Settings) : Type 0 where
   pub pwm : pwmOf (s .«gray_mode») ≡ x .pwm
   pub lines : s .«inversion_lines» ≡ x .inversion .lines

@@ -1,4 +1,4 @@
--- What a byte, a warm rise or a fall leaves of the scan: it stays valid, what does not begin the scan changes nothing that is
+-- What a byte, a warm rise or a fall leaves of the scan: it stays valid, a call that does not begin the scan changes nothing that is
 -- shown, and where nothing is to be started, dropped or cleared the scan stays as it is.
 use Prim.Native.Nat.{ℕ, zero, suc, _+_, _%_, _<_}
 use mathlib.Core.Bool.{Bool, true, false, cond, not, _&&_, _||_}

@@ -30,7 +30,7 @@ use Rattle.scan.specs.declared.state.Inversion.{Inversion}
 use Rattle.scan.specs.declared.state.ScanClock.{ScanClock}
 use Rattle.scan.specs.declared.state.Ticking.{Ticking}
 
--- what the settings give is in range
+-- the values that settings give are in range
 pub pwm-of-ok : (g : ℕ) → pwmOk (pwmOf g) ≡ true
 unfolding pwmOk pwmOf
 pwm-of-ok g = go (g % 4) (mod-lt g (omega arith))

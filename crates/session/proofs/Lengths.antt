@@ -259,7 +259,7 @@ listing-whole text ram icons out h =
     rw (le-leb room (length out) h)
     (ap (λ (p : List ℕ × ℕ). p .0) e ∙ ap (λ (n : ℕ). l ++ drop n out) (zero-add (length l)), ap (λ (p : List ℕ × ℕ). p .1) e ∙ zero-add (length l))
 
--- what was written lies within the lent bytes
+-- the bytes written lie within the lent ones
 within : (text ram icons out : List ℕ) → session text ram icons out .written ≤ length (session text ram icons out .out)
 unfolding session laid
 within text ram icons out = go (leb room (length out))

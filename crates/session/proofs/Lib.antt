@@ -1,4 +1,4 @@
--- What the proofs of the functions use.
+-- The laws that proofs of functions use.
 mod Texts
 mod Fields
 mod Listings

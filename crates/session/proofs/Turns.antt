@@ -1,4 +1,4 @@
--- What each call leaves is what the line asks for: a law for each action.
+-- Each call leaves what the line asks for: a law for each action.
 use Prim.Native.Nat.{ℕ}
 use mathlib.Core.Bool.{Bool, true, false, cond}
 use mathlib.Core.List.{List, []}

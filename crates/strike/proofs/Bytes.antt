@@ -101,7 +101,7 @@ module _ (c : Nt7508) (v : ℕ) (now : Time) (ram icons : List ℕ) where
       wait = ap endOf (k .ready) ∙ t .wait;
     }
 
-    -- what the byte finds is quiet
+    -- the scan that the byte finds is quiet
     before-quiet : (z : Scan) → Quiet z (c .display) (running c) → Quiet (before z) (c .display) (running c)
     before-quiet z q = retained-quiet (c .display) (running c) (countTo z (c .display) now) (pageSent base) ram icons (count-to-quiet (c .display) (running c) z now q)
 
