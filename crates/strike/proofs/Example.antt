@@ -4,20 +4,23 @@
 use Prim.Native.Nat.{ℕ, _^_, _≤_}
 use mathlib.Core.Bool.{Bool, true, false, false≢true}
 use mathlib.Core.List.{List, [], _∷_, _++_}
-use mathlib.Core.Option.{none, some}
+use mathlib.Core.Option.{Option, none, some}
 use mathlib.Core.Path.{_≡_, refl, _∙_, ap, ap₂}
 use native.Mathlib.Omega.{arith}
 use lib.ListN.{length}
+use Rattle.checks.specs.Checks.{changed}
 use Rattle.clock.specs.declared.time.Time.{Time}
 use Rattle.scan.specs.Check.{memoryOk, imageOk}
+use Rattle.scan.specs.Count.{pieces}
+use Rattle.controller.specs.declared.state.Nt7508.{Nt7508}
 use Rattle.controller.specs.State.{powerOn}
 use Rattle.controller.specs.Check.{awaits, groupOk, checkState, checkMoment, checkImage}
 use Rattle.controller.specs.Bits.{unpacked}
-use Rattle.controller.specs.Update.{update}
+use Rattle.controller.specs.Update.{countedTo, update}
 use Rattle.controller.specs.Look.{renderOf}
 use Rattle.controller.proofs.Checks.{moment-alone, image-alone}
 use Rattle.controller.proofs.PowerOn.{power-on-passes}
-use Rattle.strike.specs.Calls.{Call, Reply, Machine, start, reply, after, run}
+use Rattle.strike.specs.Calls.{Call, Reply, Machine, start, reply, withState, after, run}
 use Rattle.strike.specs.Marks.{Marked, Bit, bit, marked, groupOf, plain, full, keptBits, allStruck, emptied, gone, packed, groupCall, left, kept}
 use Rattle.strike.specs.Line.{Line, lineOn, takes, isWhole, value, past, amid, takenBit, followBit, followBits, accepted, followSelect, followData, followCall, follow, mayStrike, goesOn, allowedTaken, isStruck, allowedBit, allowedBits, unmarked, allowedGroup, isEmpty, uncut, allowedCall, allowedOne, allowed}
 use Rattle.strike.specs.Strike.{compared, timeOf, neverFall}
@@ -160,7 +163,8 @@ refused-image m pixels h = rw h
 -- an update that is refused counts no pieces and leaves all
 refused-update : (m : Machine) (now : Time) {n : ℕ} → checkMoment (m .state) now ≡ some n → (reply (Call.Update now) m ≡ Reply.Counted (some n) 0) × (after (Call.Update now) m ≡ m)
 unfolding reply after update
-refused-update m now h = (rw h, rw h)
+refused-update m now h =
+    (rw h, ap (λ (c : Option ℕ). withState m (changed {A = Nt7508 × ℕ} c (countedTo (m .state) now, pieces (m .state .scan) (m .state .display) now) (m .state, 0) .1 .0)) h)
 
 -- one at 2^32 s is refused with 1
 late : Time
