@@ -1,5 +1,5 @@
 -- The clock's laws for the crates above: moves add up, the edge count has a closed form and counts the edges not later than
--- the moment, counting in two steps is counting in one, and number 5 is kept.
+-- the moment, counting in two steps is counting in one, and number 5 still passes.
 use Prim.Native.Nat.{ℕ, zero, suc, _+_, _-_, _*_, _/_, _%_, _^_, _≤_, _<_, min}
 use mathlib.Core.Bool.{Bool, true, false, cond}
 use mathlib.Core.Path.{_≡_, refl, sym, _∙_, ap}
@@ -87,7 +87,7 @@ module _ (c : Clock) (r : Rate) where
   unfolding edge positionAfter position
   edge-not-before pos n = rw (moved-at n) (le-div-iff-mul-le {k = r .numerator} {x = raw (c .at)} pos .1 (omega arith))
 
-  -- number 5 is kept while the last edge is in range
+  -- number 5 still passes while the last edge is in range
   pub moved-valid : 0 < r .numerator → (n : ℕ) → Valid c r → inRange (movedBy c r n .at) ≡ true → Valid (movedBy c r n) r
   unfolding isOfRate movedBy positionAfter
   moved-valid pos n v h = record { of-rate = of-rate; fraction-lt = below; in-range = h; ordinal-le = rw (moved-position n) grown }
