@@ -28,10 +28,10 @@ use ffi::look_words::nt7508_controller_render;
 use ffi::look_words::nt7508_controller_serial_effect_edges;
 use ffi::look_words::nt7508_controller_voltages;
 use replay::added;
-use replay::extended;
 use replay::fill;
 use replay::sum_of;
 use replay::sum_of_words;
+use replay::widened;
 
 // The number of a call, and the sum of what it gives.
 struct Given {
@@ -119,7 +119,7 @@ fn changed_all(
 fn update(w: &[u64; 108], block: &mut [u64; 75]) -> Given {
     let mut pieces = 0;
     let number = nt7508_controller_update(block, w[3], w[4], &mut pieces);
-    gives(number, &[extended(pieces)])
+    gives(number, &[widened(pieces)])
 }
 
 fn driven(drive: &[u64; 12], frame: u16) -> Given {
@@ -164,7 +164,7 @@ fn voltages(block: &[u64; 75]) -> Given {
 fn edges(w: &[u64; 108], block: &[u64; 75]) -> Given {
     let mut out = 0;
     let number = nt7508_controller_serial_effect_edges(block, w[1] != 0, &mut out);
-    gives(number, &[extended(out)])
+    gives(number, &[widened(out)])
 }
 
 fn gives_deadline(number: u64, deadline: &[u64; 3]) -> Given {

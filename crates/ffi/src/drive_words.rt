@@ -29,7 +29,7 @@ fn common_word(common: Common) -> u64
     }
 }
 
-fn extended(x: u8) -> u64
+fn widened(x: u8) -> u64
     ensures { λ r. ⌜ r ≡ x ⌝ }
 {
     x as u64
@@ -46,8 +46,8 @@ pub(crate) fn words_of(drive: LcdDrive) -> [u64; 12]
         common_word(common),
         segments[0],
         segments[1],
-        extended(flag_byte(drive.inverted)),
-        extended(flag_byte(drive.grounded)),
+        widened(flag_byte(drive.inverted)),
+        widened(flag_byte(drive.grounded)),
         v[0],
         v[1],
         v[2],

@@ -23,8 +23,8 @@ use clock::Rate;
 use clock::Time;
 use clock::Wide;
 use replay::added;
-use replay::extended;
 use replay::fill;
+use replay::widened;
 use scan::Check;
 use scan::Common;
 use scan::Conditions;
@@ -124,7 +124,7 @@ fn is_flag(yes: bool, word: u64) -> bool {
 }
 
 fn is_byte(x: u8, word: u64) -> bool {
-    extended(x) == word
+    widened(x) == word
 }
 
 // A clock that is stopped has 0 for each number.

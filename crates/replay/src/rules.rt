@@ -3,7 +3,7 @@
 ghost use mathlib.Core.Path.{_≡_};
 ghost use Rattle.replay.specs.Rules.{added as addedTo, sumOf, sumOfWords, filled, temperatureOf};
 
-pub fn extended(x: u8) -> u64
+pub fn widened(x: u8) -> u64
     ensures { λ r. ⌜ r ≡ x ⌝ }
 {
     x as u64
@@ -21,7 +21,7 @@ pub fn sum_of(bytes: &[u8]) -> u64
 {
     let mut sum = 0;
     for i in 0..bytes.len() {
-        sum = added(sum, extended(bytes[i]));
+        sum = added(sum, widened(bytes[i]));
     }
     sum
 }

@@ -41,11 +41,11 @@ pub length-part : (l : List ℕ) (a k : ℕ) → a + k ≤ length l → length (
 length-part l a k h = length-take-le (a + k - a) (drop a l) (rw length-drop (omega arith)) ∙ omega arith
 
 -- rows of 96 bytes one after another
-module _ (f : ℕ → List ℕ) (extended : (y : ℕ) → length (f y) ≡ 96) where
+module _ (f : ℕ → List ℕ) (row-length : (y : ℕ) → length (f y) ≡ 96) where
   pub length-rows : (n : ℕ) → length (rowsUpTo f n) ≡ n * 96
   unfolding rowsUpTo
   length-rows zero = refl
-  length-rows (suc n) = length-append (rowsUpTo f n) (f n) ∙ omega (arith, length-rows n, extended n)
+  length-rows (suc n) = length-append (rowsUpTo f n) (f n) ∙ omega (arith, length-rows n, row-length n)
 
   -- the row y
   pub row-of-rows : (n y : ℕ) → y < n → take 96 (drop (y * 96) (rowsUpTo f n)) ≡ f y
@@ -54,7 +54,7 @@ module _ (f : ℕ → List ℕ) (extended : (y : ℕ) → length (f y) ≡ 96) w
   row-of-rows (suc n) y l = ⊎-elim last (λ k. before k ∙ row-of-rows n y k) (eq-or-lt-of-le (le-of-suc-le-suc l))
     where
       last : y ≡ n → take 96 (drop (y * 96) (rowsUpTo f n ++ f n)) ≡ f y
-      last e = rw (e, drop-at (rowsUpTo f n) (f n) (n * 96) (length-rows n)) (take-all 96 (f n) (omega (arith, extended n)))
+      last e = rw (e, drop-at (rowsUpTo f n) (f n) (n * 96) (length-rows n)) (take-all 96 (f n) (omega (arith, row-length n)))
 
       before : y < n → take 96 (drop (y * 96) (rowsUpTo f n ++ f n)) ≡ take 96 (drop (y * 96) (rowsUpTo f n))
       before k =

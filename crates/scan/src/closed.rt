@@ -12,7 +12,7 @@ use crate::settings::rows_in;
 use crate::state::Inversion;
 use crate::state::Scan;
 
-pub(crate) fn extended(x: u8) -> u64
+pub(crate) fn widened(x: u8) -> u64
     ensures { λ r. ⌜ r ≡ x ⌝ }
 {
     x as u64
@@ -33,7 +33,7 @@ fn flips_in(lines: u8, count: u8, e: u64, f: u64) -> u64
     if lines == 0 {
         return f;
     }
-    (extended(count) + e) / extended(lines)
+    (widened(count) + e) / widened(lines)
 }
 
 // The count of rows after e ended rows.
@@ -44,7 +44,7 @@ fn count_in(lines: u8, count: u8, e: u64) -> u8
     if lines == 0 {
         return count;
     }
-    ((extended(count) + e) % extended(lines)) as u8
+    ((widened(count) + e) % widened(lines)) as u8
 }
 
 // The same where the last row's end takes the lines `taken`.
@@ -105,7 +105,7 @@ fn frames_ended(scan: Scan, settings: Settings, f: u64) -> Scan
     let frame = frame_of(settings);
     let mut next = scan;
     next.frame = frame;
-    next.frc = ((extended(scan.frc) + f) % extended(next.frame.frc_count)) as u8;
+    next.frc = ((widened(scan.frc) + f) % widened(next.frame.frc_count)) as u8;
     next
 }
 
@@ -115,8 +115,8 @@ pub(crate) fn advanced(scan: Scan, settings: Settings, n: u64) -> Scan
     requires { ⌜ n ≤ 2 ^ 50 ⌝ }
     ensures { λ r. ⌜ r ≡ closed scan settings (scan .ticking) false n ⌝ }
 {
-    let total = extended(scan.step) + n;
-    let pwm = extended(scan.pwm);
+    let total = widened(scan.step) + n;
+    let pwm = widened(scan.pwm);
     let ended = total / pwm;
     let step = (total % pwm) as u8;
     if ended == 0 {
@@ -124,7 +124,7 @@ pub(crate) fn advanced(scan: Scan, settings: Settings, n: u64) -> Scan
     }
     let frame = scan.frame;
     let rows = rows_in(frame) as u64;
-    let passed = extended(scan.row) + ended;
+    let passed = widened(scan.row) + ended;
     let frames = passed / rows;
     let row = (passed % rows) as u8;
     let next = rows_ended(scan, settings, step, row, ended, frames);

@@ -11,8 +11,8 @@ ghost use Rattle.scan.specs.Byte.{staysShown};
 ghost use Rattle.scan.specs.Fast.{byFast, notFast, checksPass, countedFast, fastByte, inForce, inversionOn, withCounters, rowsOn, movedOn};
 use crate::byte::settled;
 use crate::check::memory_ok;
-use crate::closed::extended;
 use crate::closed::inversion_taken;
+use crate::closed::widened;
 use crate::count::frame_same;
 use crate::count::rate_same;
 use crate::count::row_same;
@@ -91,7 +91,7 @@ fn phase_on(frc: u8, f: u64, phases: u8) -> u8
     requires { ⌜ 0 < phases ⌝ }
     ensures { λ r. ⌜ r ≡ (frc + f) % phases ⌝ }
 {
-    ((extended(frc) + f) % extended(phases)) as u8
+    ((widened(frc) + f) % widened(phases)) as u8
 }
 
 // Past e row ends, with every setting in force.
@@ -103,7 +103,7 @@ fn rows_on(scan: Scan, clock: Clock, step: u8, e: u64) -> Scan
     let frame = scan.frame;
     let inversion = scan.inversion;
     let rows = rows_in(frame) as u64;
-    let passed = extended(scan.row) + e;
+    let passed = widened(scan.row) + e;
     if passed < rows {
         let next = inversion_on(inversion, e, 0);
         return with_counters(scan, clock, step, passed as u8, scan.frc, next);
@@ -121,8 +121,8 @@ fn moved_on(scan: Scan, clock: Clock, n: u64) -> Scan
     requires { ⌜ n ≤ 2 ^ 50 ⌝ }
     ensures { λ r. ⌜ r ≡ movedOn scan clock n ⌝ }
 {
-    let total = extended(scan.step) + n;
-    let pwm = extended(scan.pwm);
+    let total = widened(scan.step) + n;
+    let pwm = widened(scan.pwm);
     if total < pwm {
         let inversion = scan.inversion;
         return with_counters(scan, clock, total as u8, scan.row, scan.frc, inversion);

@@ -14,7 +14,7 @@ ghost use Rattle.scan.specs.Stretch.{limitIn, rateStays, stretchLimit, t
 use crate::check::Check;
 use crate::check::Refusal;
 use crate::closed::advanced;
-use crate::closed::extended;
+use crate::closed::widened;
 use crate::count::Counted;
 use crate::count::frame_same;
 use crate::count::rate_same;
@@ -45,7 +45,7 @@ fn row_remaining(scan: Scan) -> u64
     requires { ⌜ validScan scan ≡ true ⌝ }
     ensures { λ r. ⌜ r ≡ scan .pwm - scan .step ⌝ }
 {
-    extended(scan.pwm - scan.step)
+    widened(scan.pwm - scan.step)
 }
 
 // Quanta up to the end of the frame.
@@ -55,7 +55,7 @@ fn frame_remaining(scan: Scan) -> u64
 {
     let frame = scan.frame;
     let rows = rows_in(frame) as u64;
-    (rows - extended(scan.row)) * extended(scan.pwm) - extended(scan.step)
+    (rows - widened(scan.row)) * widened(scan.pwm) - widened(scan.step)
 }
 
 // How many quanta the piece rule takes at once.

@@ -6,10 +6,10 @@ ghost use Rattle.voltage.specs.Finder.{inBand, Says};
 use crate::Refusal;
 use crate::Settings;
 use crate::target::base_of;
-use crate::target::extended;
 use crate::target::gain_of;
 use crate::target::microvolts_of;
 use crate::target::temperature_factor;
+use crate::target::widened;
 
 // The answer to `find_setting`: a pair in the band, or that there is none, or why it was turned down.
 pub enum Found {
@@ -24,7 +24,7 @@ fn in_band(low: u32, high: u32, scaled: u64, base: u64, contrast: u8) -> bool
     requires { ⌜ (scaled < 2 ^ 49) × ((base ≤ 154) × (contrast < 64)) ⌝ }
     ensures { λ r. ⌜ r ≡ inBand low high (rounded (scaled * (base + contrast))) ⌝ }
 {
-    let v = microvolts_of(scaled, base + extended(contrast));
+    let v = microvolts_of(scaled, base + widened(contrast));
     (low <= v) & (v <= high)
 }
 

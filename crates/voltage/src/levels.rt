@@ -9,9 +9,9 @@ use crate::LcdVoltages;
 use crate::Level;
 use crate::Settings;
 use crate::Supply;
-use crate::target::extended;
 use crate::target::has_bit;
 use crate::target::target_of;
+use crate::target::widened;
 
 // Whether the analog part works at this temperature.
 fn works_at(temperature: i32) -> bool
@@ -92,8 +92,8 @@ fn share_of(target: u32, n: u8, f: u8) -> u32
     requires { ⌜ (0 < n) × (f ≤ n) ⌝ }
     ensures { λ r. ⌜ r ≡ share target n f ⌝ }
 {
-    let parts = extended(n);
-    let sum = (target as u64) * extended(f) + parts / 2;
+    let parts = widened(n);
+    let sum = (target as u64) * widened(f) + parts / 2;
     (sum / parts) as u32
 }
 

@@ -19,7 +19,7 @@ pub(crate) fn has_bit(x: u8, k: u8) -> bool
 }
 
 // A byte as a u64: a call asks for less proof than a cast in the middle of an expression.
-pub(crate) fn extended(x: u8) -> u64
+pub(crate) fn widened(x: u8) -> u64
     ensures { λ r. ⌜ r ≡ x ⌝ }
 {
     x as u64
@@ -65,7 +65,7 @@ pub(crate) fn base_of(contrast_trim: u8, otp_control: u8) -> u64
     if !has_bit(otp_control, 0) {
         return 147;
     }
-    let offset = extended(contrast_trim);
+    let offset = widened(contrast_trim);
     if offset < 8 {
         return 147 + offset;
     }
@@ -103,5 +103,5 @@ pub(crate) fn target_of(settings: Settings, temperature: i32) -> u32
     let factor = temperature_factor(settings.temperature_slope, temperature);
     let base = base_of(settings.contrast_trim, settings.otp_control);
     let scaled = factor * gain_of(settings.regulator);
-    microvolts_of(scaled, base + extended(settings.contrast))
+    microvolts_of(scaled, base + widened(settings.contrast))
 }

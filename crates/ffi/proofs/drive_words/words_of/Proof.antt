@@ -5,11 +5,11 @@ use Rattle.ffi.proofs.drive_words.words_of.Tie as tie
 
 returns : tie.Need-returns
 returns c =
-    let at-extended = c .before .before in
-    let at-flag-byte = at-extended .before in
+    let at-widened = c .before .before in
+    let at-flag-byte = at-widened .before in
     let at-common-word = at-flag-byte .before in
     let at-words-of = at-common-word .before in
-    simp (at-words-of .words-of .ensures, at-common-word .common-word .ensures, at-extended .extended .ensures, at-flag-byte .flag-byte .ensures, c .extended2 .ensures, c .before .flag-byte2 .ensures)
+    simp (at-words-of .words-of .ensures, at-common-word .common-word .ensures, at-widened .widened .ensures, at-flag-byte .flag-byte .ensures, c .widened2 .ensures, c .before .flag-byte2 .ensures)
 
 pub words-of-spec : {M : Type 1} → statement M
 words-of-spec =

@@ -22,7 +22,7 @@ loop-holds c = (refl, (refl, omega arith))
 loop-again : tie.Need-loop-again Inv-loop μ-loop
 loop-again c =
     let at-loop = c .before .before .before .before in
-    (simp (sum-next, c .added .ensures, c .before .extended .ensures, at-loop .loop .inv .0), (refl, search needs))
+    (simp (sum-next, c .added .ensures, c .before .widened .ensures, at-loop .loop .inv .0), (refl, search needs))
 
 returns : tie.Need-returns Inv-loop μ-loop
 unfolding sumOf

@@ -15,37 +15,37 @@ use Rattle.scan.proofs.closed.advanced.Tie as tie
 div-ended : tie.Need-div-ended
 div-ended c =
     let start = c .before .before in
-    simp (c .extended2 .ensures) (omega (arith, (valid-scan (start .args .scan) (start .pre .0)) .step-below))
+    simp (c .widened2 .ensures) (omega (arith, (valid-scan (start .args .scan) (start .pre .0)) .step-below))
 
 rem-step : tie.Need-rem-step
 rem-step c =
     let start = c .before .before in
-    simp (c .extended2 .ensures) (omega (arith, (valid-scan (start .args .scan) (start .pre .0)) .step-below))
+    simp (c .widened2 .ensures) (omega (arith, (valid-scan (start .args .scan) (start .pre .0)) .step-below))
 
 cast-step : tie.Need-cast-step
 cast-step c =
     let start = c .before .before in
-    simp (c .extended2 .ensures) (record { fits = mod-fits _ _ (omega (arith, (valid-scan (start .args .scan) (start .pre .0)) .step-below)) (omega arith) })
+    simp (c .widened2 .ensures) (record { fits = mod-fits _ _ (omega (arith, (valid-scan (start .args .scan) (start .pre .0)) .step-below)) (omega arith) })
 
 returns : tie.Need-returns
 unfolding closed after inversionIn
 returns c =
-    let at-extended2 = c .before .before in
-    let at-extended = at-extended2 .before in
-    let start = at-extended .before in
+    let at-widened2 = c .before .before in
+    let at-widened = at-widened2 .before in
+    let start = at-widened .before in
     let x = start .args .scan in
     let v = valid-scan x (start .pre .0) in
-    let z : (x .step + start .args .n) / x .pwm ≡ 0 = simp (at-extended .extended .ensures, at-extended2 .extended2 .ensures) at (c .before .if1 .taken) in
-    simp (at-extended .extended .ensures, at-extended2 .extended2 .ensures, c .in-row .ensures, z, add-zero, div-eq-of-lt (v .row-below), mod-eq-of-lt (v .row-below), flips-none (x .inversion .lines) (x .inversion .count) (v .inversion .count-below))
+    let z : (x .step + start .args .n) / x .pwm ≡ 0 = simp (at-widened .widened .ensures, at-widened2 .widened2 .ensures) at (c .before .if1 .taken) in
+    simp (at-widened .widened .ensures, at-widened2 .widened2 .ensures, c .in-row .ensures, z, add-zero, div-eq-of-lt (v .row-below), mod-eq-of-lt (v .row-below), flips-none (x .inversion .lines) (x .inversion .count) (v .inversion .count-below))
 
 add-passed : tie.Need-add-passed
 add-passed c =
-    let at-extended2 = c .before .before .before .before in
-    let at-extended = at-extended2 .before in
-    let start = at-extended .before in
+    let at-widened2 = c .before .before .before .before in
+    let at-widened = at-widened2 .before in
+    let start = at-widened .before in
     let x = start .args .scan in
     let v = valid-scan x (start .pre .0) in
-    simp (at-extended .extended .ensures, at-extended2 .extended2 .ensures, c .extended3 .ensures) (record { fits = ended-fits _ _ _ (omega (arith, v .row-below, rows-high (x .frame), v .frame .duty-high)) (omega (arith, start .pre .1, v .step-below, pwm-small (x .pwm) (v .pwm-ok))) })
+    simp (at-widened .widened .ensures, at-widened2 .widened2 .ensures, c .widened3 .ensures) (record { fits = ended-fits _ _ _ (omega (arith, v .row-below, rows-high (x .frame), v .frame .duty-high)) (omega (arith, start .pre .1, v .step-below, pwm-small (x .pwm) (v .pwm-ok))) })
 
 div-frames : tie.Need-div-frames
 div-frames c =
@@ -66,48 +66,48 @@ cast-row c =
 
 rows-ended-requires : tie.Need-rows-ended-requires
 rows-ended-requires c κs =
-    let at-extended2 = c .before .before .before .before in
-    let at-extended = at-extended2 .before in
-    let start = at-extended .before in
+    let at-widened2 = c .before .before .before .before in
+    let at-widened = at-widened2 .before in
+    let start = at-widened .before in
     let x = start .args .scan in
     let v = valid-scan x (start .pre .0) in
-    simp (at-extended .extended .ensures, at-extended2 .extended2 .ensures) (div-small _ _ (omega (arith, start .pre .1, v .step-below, pwm-small (x .pwm) (v .pwm-ok))))
+    simp (at-widened .widened .ensures, at-widened2 .widened2 .ensures) (div-small _ _ (omega (arith, start .pre .1, v .step-below, pwm-small (x .pwm) (v .pwm-ok))))
 
 returns-2 : tie.Need-returns-2
 unfolding closed after inversionIn
 returns-2 c =
-    let at-extended3 = c .before .before in
-    let at-rows-in = at-extended3 .before in
+    let at-widened3 = c .before .before in
+    let at-rows-in = at-widened3 .before in
     let at-if1 = at-rows-in .before .before in
-    let at-extended2 = at-if1 .before in
-    let at-extended = at-extended2 .before in
-    let e = simp (at-extended .extended .ensures, at-extended2 .extended2 .ensures) at (ne-eqb _ _ (at-if1 .if1 .left)) in
-    let f = simp (at-extended .extended .ensures, at-extended2 .extended2 .ensures, at-extended3 .extended3 .ensures, at-rows-in .rows-in .ensures) at (eq-eqb _ _ (c .if2 .taken)) in
-    simp (at-extended .extended .ensures, at-extended2 .extended2 .ensures, at-extended3 .extended3 .ensures, at-rows-in .rows-in .ensures, c .before .rows-ended .ensures, e, f)
+    let at-widened2 = at-if1 .before in
+    let at-widened = at-widened2 .before in
+    let e = simp (at-widened .widened .ensures, at-widened2 .widened2 .ensures) at (ne-eqb _ _ (at-if1 .if1 .left)) in
+    let f = simp (at-widened .widened .ensures, at-widened2 .widened2 .ensures, at-widened3 .widened3 .ensures, at-rows-in .rows-in .ensures) at (eq-eqb _ _ (c .if2 .taken)) in
+    simp (at-widened .widened .ensures, at-widened2 .widened2 .ensures, at-widened3 .widened3 .ensures, at-rows-in .rows-in .ensures, c .before .rows-ended .ensures, e, f)
 
 frames-ended-requires : tie.Need-frames-ended-requires
 frames-ended-requires c κs =
-    let at-extended3 = c .before .before in
-    let at-rows-in = at-extended3 .before in
-    let at-extended2 = at-rows-in .before .before .before in
-    let at-extended = at-extended2 .before in
-    let start = at-extended .before in
+    let at-widened3 = c .before .before in
+    let at-rows-in = at-widened3 .before in
+    let at-widened2 = at-rows-in .before .before .before in
+    let at-widened = at-widened2 .before in
+    let start = at-widened .before in
     let x = start .args .scan in
     let v = valid-scan x (start .pre .0) in
-    simp (at-extended .extended .ensures, at-extended2 .extended2 .ensures, at-extended3 .extended3 .ensures, at-rows-in .rows-in .ensures) (frames-small _ _ _ _ (omega (arith, v .row-below, rows-high (x .frame), v .frame .duty-high)) (omega (arith, start .pre .1, v .step-below, pwm-small (x .pwm) (v .pwm-ok))))
+    simp (at-widened .widened .ensures, at-widened2 .widened2 .ensures, at-widened3 .widened3 .ensures, at-rows-in .rows-in .ensures) (frames-small _ _ _ _ (omega (arith, v .row-below, rows-high (x .frame), v .frame .duty-high)) (omega (arith, start .pre .1, v .step-below, pwm-small (x .pwm) (v .pwm-ok))))
 
 returns-3 : tie.Need-returns-3
 unfolding closed after inversionIn
 returns-3 c =
     let at-rows-ended = c .before .before in
-    let at-extended3 = at-rows-ended .before in
-    let at-rows-in = at-extended3 .before in
+    let at-widened3 = at-rows-ended .before in
+    let at-rows-in = at-widened3 .before in
     let at-if1 = at-rows-in .before .before in
-    let at-extended2 = at-if1 .before in
-    let at-extended = at-extended2 .before in
-    let e = simp (at-extended .extended .ensures, at-extended2 .extended2 .ensures) at (ne-eqb _ _ (at-if1 .if1 .left)) in
-    let f = simp (at-extended .extended .ensures, at-extended2 .extended2 .ensures, at-extended3 .extended3 .ensures, at-rows-in .rows-in .ensures) at (ne-eqb _ _ (c .before .if2 .left)) in
-    simp (at-extended .extended .ensures, at-extended2 .extended2 .ensures, at-extended3 .extended3 .ensures, at-rows-in .rows-in .ensures, at-rows-ended .rows-ended .ensures, c .frames-ended .ensures, e, f)
+    let at-widened2 = at-if1 .before in
+    let at-widened = at-widened2 .before in
+    let e = simp (at-widened .widened .ensures, at-widened2 .widened2 .ensures) at (ne-eqb _ _ (at-if1 .if1 .left)) in
+    let f = simp (at-widened .widened .ensures, at-widened2 .widened2 .ensures, at-widened3 .widened3 .ensures, at-rows-in .rows-in .ensures) at (ne-eqb _ _ (c .before .if2 .left)) in
+    simp (at-widened .widened .ensures, at-widened2 .widened2 .ensures, at-widened3 .widened3 .ensures, at-rows-in .rows-in .ensures, at-rows-ended .rows-ended .ensures, c .frames-ended .ensures, e, f)
 
 pub advanced-spec : {M : Type 1} → statement M
 advanced-spec =

@@ -13,7 +13,7 @@ cast-result : tie.Need-cast-result
 cast-result c = record { fits = mod-fits _ _ (omega arith) (omega arith) }
 
 returns-2 : tie.Need-returns-2
-returns-2 c = simp (ne-eqb _ _ (c .before .before .if1 .left), c .before .extended .ensures, c .extended2 .ensures)
+returns-2 c = simp (ne-eqb _ _ (c .before .before .if1 .left), c .before .widened .ensures, c .widened2 .ensures)
 
 pub count-in-spec : {M : Type 1} → statement M
 count-in-spec =

@@ -8,7 +8,7 @@ returns : tie.Need-returns
 returns c = simp (eq-eqb _ _ (c .if1 .taken))
 
 returns-2 : tie.Need-returns-2
-returns-2 c = simp (ne-eqb _ _ (c .before .before .if1 .left), c .before .extended .ensures, c .extended2 .ensures)
+returns-2 c = simp (ne-eqb _ _ (c .before .before .if1 .left), c .before .widened .ensures, c .widened2 .ensures)
 
 pub flips-in-spec : {M : Type 1} → statement M
 flips-in-spec =

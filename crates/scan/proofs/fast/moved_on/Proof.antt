@@ -14,48 +14,48 @@ returns : tie.Need-returns
 unfolding movedOn rowsOn onward inversionOn
 returns c =
     let at-if1 = c .before .before in
-    let at-extended2 = at-if1 .before in
-    let at-extended = at-extended2 .before in
-    let start = at-extended .before in
+    let at-widened2 = at-if1 .before in
+    let at-widened = at-widened2 .before in
+    let start = at-widened .before in
     let x = start .args .scan in
     let v = valid-scan x (start .pre .0) in
-    let h : x .step + start .args .n < x .pwm = simp (at-extended .extended .ensures, at-extended2 .extended2 .ensures) at (at-if1 .if1 .taken) in
-    simp (c .with-counters .ensures, at-extended .extended .ensures, div-eq-of-lt h, mod-eq-of-lt h, add-zero, div-eq-of-lt (v .row-below), mod-eq-of-lt (v .row-below), mod-eq-of-lt (v .frc-below), count-none (x .inversion .lines) (x .inversion .count) (v .inversion .count-below), flips-none (x .inversion .lines) (x .inversion .count) (v .inversion .count-below))
+    let h : x .step + start .args .n < x .pwm = simp (at-widened .widened .ensures, at-widened2 .widened2 .ensures) at (at-if1 .if1 .taken) in
+    simp (c .with-counters .ensures, at-widened .widened .ensures, div-eq-of-lt h, mod-eq-of-lt h, add-zero, div-eq-of-lt (v .row-below), mod-eq-of-lt (v .row-below), mod-eq-of-lt (v .frc-below), count-none (x .inversion .lines) (x .inversion .count) (v .inversion .count-below), flips-none (x .inversion .lines) (x .inversion .count) (v .inversion .count-below))
 
 rem-rows-on : tie.Need-rem-rows-on
 rem-rows-on c =
-    let at-extended2 = c .before in
-    let start = at-extended2 .before .before in
-    simp (at-extended2 .extended2 .ensures) (omega (arith, (valid-scan (start .args .scan) (start .pre .0)) .step-below))
+    let at-widened2 = c .before in
+    let start = at-widened2 .before .before in
+    simp (at-widened2 .widened2 .ensures) (omega (arith, (valid-scan (start .args .scan) (start .pre .0)) .step-below))
 
 cast-rows-on : tie.Need-cast-rows-on
 cast-rows-on c =
-    let at-extended2 = c .before in
-    let start = at-extended2 .before .before in
+    let at-widened2 = c .before in
+    let start = at-widened2 .before .before in
     let x = start .args .scan in
     let v = valid-scan x (start .pre .0) in
-    simp (at-extended2 .extended2 .ensures) (record { fits = mod-fits _ _ (omega (arith, v .step-below)) (omega (arith, pwm-small (x .pwm) (v .pwm-ok))) })
+    simp (at-widened2 .widened2 .ensures) (record { fits = mod-fits _ _ (omega (arith, v .step-below)) (omega (arith, pwm-small (x .pwm) (v .pwm-ok))) })
 
 div-rows-on : tie.Need-div-rows-on
 div-rows-on c =
-    let at-extended2 = c .before in
-    let start = at-extended2 .before .before in
-    simp (at-extended2 .extended2 .ensures) (omega (arith, (valid-scan (start .args .scan) (start .pre .0)) .step-below))
+    let at-widened2 = c .before in
+    let start = at-widened2 .before .before in
+    simp (at-widened2 .widened2 .ensures) (omega (arith, (valid-scan (start .args .scan) (start .pre .0)) .step-below))
 
 rows-on-requires : tie.Need-rows-on-requires
 rows-on-requires c κs =
-    let at-extended2 = c .before in
-    let at-extended = at-extended2 .before in
-    let start = at-extended .before in
+    let at-widened2 = c .before in
+    let at-widened = at-widened2 .before in
+    let start = at-widened .before in
     let x = start .args .scan in
     let v = valid-scan x (start .pre .0) in
-    (start .pre .0, simp (at-extended .extended .ensures, at-extended2 .extended2 .ensures) (div-small _ _ (omega (arith, start .pre .1, v .step-below, pwm-small (x .pwm) (v .pwm-ok)))))
+    (start .pre .0, simp (at-widened .widened .ensures, at-widened2 .widened2 .ensures) (div-small _ _ (omega (arith, start .pre .1, v .step-below, pwm-small (x .pwm) (v .pwm-ok)))))
 
 returns-2 : tie.Need-returns-2
 unfolding movedOn
 returns-2 c =
-    let at-extended2 = c .before .before in
-    simp (c .rows-on .ensures, at-extended2 .extended2 .ensures, at-extended2 .before .extended .ensures)
+    let at-widened2 = c .before .before in
+    simp (c .rows-on .ensures, at-widened2 .widened2 .ensures, at-widened2 .before .widened .ensures)
 
 pub moved-on-spec : {M : Type 1} → statement M
 moved-on-spec =

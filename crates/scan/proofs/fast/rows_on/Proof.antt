@@ -14,26 +14,26 @@ use Rattle.scan.proofs.fast.rows_on.Tie as tie
 cast-with-counters : tie.Need-cast-with-counters
 cast-with-counters c =
     let at-if1 = c .before in
-    let at-extended = at-if1 .before in
-    let at-rows-in = at-extended .before in
+    let at-widened = at-if1 .before in
+    let at-rows-in = at-widened .before in
     let start = at-rows-in .before .before .before in
     let x = start .args .scan in
     let v = valid-scan x (start .pre .0) in
-    let h : x .row + start .args .e < rows x = simp (at-extended .extended .ensures, at-rows-in .rows-in .ensures) at (at-if1 .if1 .taken) in
-    simp (at-extended .extended .ensures) (record { fits = omega (arith, h, rows-high (x .frame), v .frame .duty-high) })
+    let h : x .row + start .args .e < rows x = simp (at-widened .widened .ensures, at-rows-in .rows-in .ensures) at (at-if1 .if1 .taken) in
+    simp (at-widened .widened .ensures) (record { fits = omega (arith, h, rows-high (x .frame), v .frame .duty-high) })
 
 returns : tie.Need-returns
 unfolding rowsOn onward
 returns c =
     let at-inversion-on = c .before in
     let at-if1 = at-inversion-on .before in
-    let at-extended = at-if1 .before in
-    let at-rows-in = at-extended .before in
+    let at-widened = at-if1 .before in
+    let at-rows-in = at-widened .before in
     let start = at-rows-in .before .before .before in
     let x = start .args .scan in
     let v = valid-scan x (start .pre .0) in
-    let h : x .row + start .args .e < rows x = simp (at-extended .extended .ensures, at-rows-in .rows-in .ensures) at (at-if1 .if1 .taken) in
-    simp (c .with-counters .ensures, at-inversion-on .inversion-on .ensures, at-extended .extended .ensures, div-eq-of-lt h, mod-eq-of-lt h, add-zero, mod-eq-of-lt (v .frc-below))
+    let h : x .row + start .args .e < rows x = simp (at-widened .widened .ensures, at-rows-in .rows-in .ensures) at (at-if1 .if1 .taken) in
+    simp (c .with-counters .ensures, at-inversion-on .inversion-on .ensures, at-widened .widened .ensures, div-eq-of-lt h, mod-eq-of-lt h, add-zero, mod-eq-of-lt (v .frc-below))
 
 div-frames : tie.Need-div-frames
 div-frames c =
@@ -57,22 +57,22 @@ cast-row c =
 
 phase-on-requires : tie.Need-phase-on-requires
 phase-on-requires c κs =
-    let at-extended = c .before .before in
-    let at-rows-in = at-extended .before in
+    let at-widened = c .before .before in
+    let at-rows-in = at-widened .before in
     let start = at-rows-in .before .before .before in
     let x = start .args .scan in
     let v = valid-scan x (start .pre .0) in
     let small = div-le-self (x .row + start .args .e) (rows x) in
-    (simp (at-extended .extended .ensures, at-rows-in .rows-in .ensures) (omega (arith, small, start .pre .1, v .row-below, rows-high (x .frame), v .frame .duty-high)), omega (arith, v .frc-below))
+    (simp (at-widened .widened .ensures, at-rows-in .rows-in .ensures) (omega (arith, small, start .pre .1, v .row-below, rows-high (x .frame), v .frame .duty-high)), omega (arith, v .frc-below))
 
 returns-2 : tie.Need-returns-2
 unfolding rowsOn onward
 returns-2 c =
     let at-phase-on = c .before in
     let at-inversion-on = at-phase-on .before in
-    let at-extended = at-inversion-on .before .before in
-    let at-rows-in = at-extended .before in
-    simp (c .with-counters2 .ensures, at-phase-on .phase-on .ensures, at-inversion-on .inversion-on2 .ensures, at-extended .extended .ensures, at-rows-in .rows-in .ensures)
+    let at-widened = at-inversion-on .before .before in
+    let at-rows-in = at-widened .before in
+    simp (c .with-counters2 .ensures, at-phase-on .phase-on .ensures, at-inversion-on .inversion-on2 .ensures, at-widened .widened .ensures, at-rows-in .rows-in .ensures)
 
 pub rows-on-spec : {M : Type 1} → statement M
 rows-on-spec =

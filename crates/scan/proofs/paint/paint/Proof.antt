@@ -66,8 +66,8 @@ loop-again c =
     let at-loop = at-paint-row .before .before .before in
     let a = at-loop .before .before .before .before .args in
     let l = at-loop .loop in
-    let extended = length-row (a .settings) (a .lit) (a .ram .now) in
-    (omega arith, rows-more _ extended (l .y) (a .image .now) (l .inv .1) (at-paint-row .paint-row .ensures))
+    let row-length = length-row (a .settings) (a .lit) (a .ram .now) in
+    (omega arith, rows-more _ row-length (l .y) (a .image .now) (l .inv .1) (at-paint-row .paint-row .ensures))
 
 same-length : tie.Need-same-length Inv-loop μ-loop
 same-length c =

@@ -14,7 +14,7 @@ sub-result : tie.Need-sub-result
 unfolding stopped withTicking
 sub-result c =
     let start = c .before .before .before in
-    simp (c .before .rows-in .ensures, c .extended .ensures) (omega (arith, counters-in-range (start .args .scan) (start .pre) .row-below))
+    simp (c .before .rows-in .ensures, c .widened .ensures) (omega (arith, counters-in-range (start .args .scan) (start .pre) .row-below))
 
 mul-result : tie.Need-mul-result
 unfolding stopped withTicking
@@ -23,23 +23,23 @@ mul-result c =
     let start = at-rows-in .before .before in
     let x = start .args .scan in
     let v = counters-in-range x (start .pre) in
-    simp (at-rows-in .rows-in .ensures, c .before .extended .ensures, c .extended2 .ensures) (record { fits = product-fits (rows x - x .row) (x .pwm) (omega (arith, rows-high (x .frame), v .frame .duty-high)) (omega (arith, pwm-small (x .pwm) (v .pwm-ok))) })
+    simp (at-rows-in .rows-in .ensures, c .before .widened .ensures, c .widened2 .ensures) (record { fits = product-fits (rows x - x .row) (x .pwm) (omega (arith, rows-high (x .frame), v .frame .duty-high)) (omega (arith, pwm-small (x .pwm) (v .pwm-ok))) })
 
 sub-result-2 : tie.Need-sub-result-2
 unfolding stopped withTicking
 sub-result-2 c =
-    let at-extended = c .before .before in
-    let at-rows-in = at-extended .before in
+    let at-widened = c .before .before in
+    let at-rows-in = at-widened .before in
     let start = at-rows-in .before .before in
     let x = start .args .scan in
     let v = counters-in-range x (start .pre) in
-    simp (at-rows-in .rows-in .ensures, at-extended .extended .ensures, c .before .extended2 .ensures, c .extended3 .ensures) (omega (arith, v .step-below, row-left (rows x) (x .row) (x .pwm) (v .row-below)))
+    simp (at-rows-in .rows-in .ensures, at-widened .widened .ensures, c .before .widened2 .ensures, c .widened3 .ensures) (omega (arith, v .step-below, row-left (rows x) (x .row) (x .pwm) (v .row-below)))
 
 returns : tie.Need-returns
 returns c =
-    let at-extended = c .before .before in
-    let at-rows-in = at-extended .before in
-    simp (at-rows-in .rows-in .ensures, at-extended .extended .ensures, c .before .extended2 .ensures, c .extended3 .ensures)
+    let at-widened = c .before .before in
+    let at-rows-in = at-widened .before in
+    simp (at-rows-in .rows-in .ensures, at-widened .widened .ensures, c .before .widened2 .ensures, c .widened3 .ensures)
 
 pub frame-remaining-spec : {M : Type 1} → statement M
 frame-remaining-spec =

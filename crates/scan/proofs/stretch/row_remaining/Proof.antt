@@ -7,9 +7,9 @@ use borrow.Author.Needs.{needs}
 use Rattle.scan.proofs.stretch.row_remaining.Statement.{statement}
 use Rattle.scan.proofs.stretch.row_remaining.Tie as tie
 
-sub-extended : tie.Need-sub-extended
+sub-widened : tie.Need-sub-widened
 unfolding stopped withTicking
-sub-extended c = omega (arith, counters-in-range (c .before .args .scan) (c .before .pre) .step-below)
+sub-widened c = omega (arith, counters-in-range (c .before .args .scan) (c .before .pre) .step-below)
 
 pub row-remaining-spec : {M : Type 1} → statement M
-row-remaining-spec = tie.close (tie.spec sub-extended (λ c κs. search needs) (λ c. search needs))
+row-remaining-spec = tie.close (tie.spec sub-widened (λ c κs. search needs) (λ c. search needs))

@@ -8,7 +8,7 @@ use native.Mathlib.Omega.{arith}
 use Rattle.voltage.proofs.levels.share_of.Statement.{statement}
 use Rattle.voltage.proofs.levels.share_of.Tie as tie
 
-product : (c : tie.After-extended2) → c .before .before .args .target * c .extended2 .result ≤ 2 ^ 32 * 256
+product : (c : tie.After-widened2) → c .before .before .args .target * c .widened2 .result ≤ 2 ^ 32 * 256
 product c = mul-le-mul {n₂ = 2 ^ 32} {m₂ = 256} (omega arith) (omega arith)
 
 mul-sum : tie.Need-mul-sum
@@ -21,12 +21,12 @@ cast-result : tie.Need-cast-result
 unfolding share
 cast-result c =
     let start = c .before .before in
-    rw (c .extended2 .ensures, c .before .extended .ensures)
+    rw (c .widened2 .ensures, c .before .widened .ensures)
     (omega (arith, share-within (start .args .target) (start .args .n) (start .pre .0) (start .pre .1)))
 
 returns : tie.Need-returns
 unfolding share
-returns c = rw (c .extended2 .ensures, c .before .extended .ensures)
+returns c = rw (c .widened2 .ensures, c .before .widened .ensures)
 
 pub share-of-spec : {M : Type 1} → statement M
 share-of-spec =

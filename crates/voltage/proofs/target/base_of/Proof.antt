@@ -16,7 +16,7 @@ returns-2 : tie.Need-returns-2
 unfolding trim
 returns-2 c = (
   rw (sym (c .before .before .before .has-bit .ensures) ∙ not-false _ (c .before .before .if1 .left))
-      (simp (← c .before .extended .ensures, lt-ltb _ _ (c .if2 .taken))),
+      (simp (← c .before .widened .ensures, lt-ltb _ _ (c .if2 .taken))),
   omega arith,
 )
 
@@ -24,7 +24,7 @@ returns-3 : tie.Need-returns-3
 unfolding trim
 returns-3 c = (
   rw (sym (c .before .before .before .has-bit .ensures) ∙ not-false _ (c .before .before .if1 .left))
-      (simp (← c .before .extended .ensures, le-ltb _ _ (c .if2 .left)) (negative-trim _ (c .if2 .left) (omega arith))),
+      (simp (← c .before .widened .ensures, le-ltb _ _ (c .if2 .left)) (negative-trim _ (c .if2 .left) (omega arith))),
   omega arith,
 )
 

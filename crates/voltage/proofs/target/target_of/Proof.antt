@@ -29,7 +29,7 @@ unfolding target
 returns c =
     let start = c .before .before .before .before .before in
     c .microvolts-of .ensures
-    ∙ rw (c .before .extended .ensures)
+    ∙ rw (c .before .widened .ensures)
     (target-is (start .args .settings) (start .args .temperature) _ _ _ _ _
     (rw (toZ-ofZ (start .fits .temperature)) at (c .before .before .before .before .temperature-factor .ensures .0))
     (c .before .before .gain-of .ensures .0) (c .before .before .before .base-of .ensures .0))
