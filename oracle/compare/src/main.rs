@@ -77,7 +77,8 @@ compare cases clock|voltage|scan|controller|session [COUNT]
                                         and COUNT random ones (clock 2000, and as many boundaries;
                                         voltage 4000; scan 900; controller 96 lists of 50 calls;
                                         session 16, and twice as many damaged)
-compare speed                           how long a call takes, the original and ours
+compare speed [least]                   how long a call takes, the original and ours: the median of long
+                                        rounds, or the least of many short ones
 --seed N anywhere sets the seed of every random choice (default 7508).
 Exit: 0 no difference; 1 a difference, a panic, or nothing compared; 2 bad usage; 3 not joined yet.";
 
@@ -136,7 +137,8 @@ fn command() -> ExitCode {
         ("selfcheck", None, _) => code(selfcheck::run(seed)),
         ("findings", None, _) => code(findings::run()),
         ("differences", None, _) => code(differences::run()),
-        ("speed", None, _) => code(speed::run(seed)),
+        ("speed", None, _) => code(speed::run(seed, speed::MEDIAN)),
+        ("speed", Some("least"), _) => code(speed::run(seed, speed::LEAST)),
         ("fuzz", count, _) => match number(count) {
             Ok(count) => code(fuzz::run(seed, count.unwrap_or(200_000))),
             Err(_) => usage(),

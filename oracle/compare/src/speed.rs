@@ -23,13 +23,38 @@ use original::{
     },
     time::Clock,
 };
-use std::{hint::black_box, time::Duration};
+use std::{hint::black_box, sync::OnceLock, time::Duration};
 
-/// Rounds of both sides, one after the other.
-const ROUNDS: usize = 11;
+/// The rounds of a row, in which both sides work one after the other.
+pub struct Rounds {
+    number: usize,
+    /// How many nanoseconds the slower side works in one, about.
+    length: f64,
+    /// The figure of a row: which of its rounds, from the least to the most.
+    told: usize,
+}
 
-/// How many nanoseconds the slower side works in a round, about.
-const ROUND: f64 = 5e7;
+/// The median of long rounds.
+pub const MEDIAN: Rounds = Rounds {
+    number: 11,
+    length: 5e7,
+    told: 5,
+};
+
+/// The least of many short rounds: what a call takes where nothing else has the
+/// machine, so that two libraries can be compared on a busy one.
+pub const LEAST: Rounds = Rounds {
+    number: 41,
+    length: 1e6,
+    told: 0,
+};
+
+/// What `run` was asked for.
+static ROUNDS: OnceLock<Rounds> = OnceLock::new();
+
+fn rounds() -> &'static Rounds {
+    ROUNDS.get_or_init(|| MEDIAN)
+}
 
 /// How many calls were made, and how long they took.
 pub type Timed = (usize, Duration);
@@ -40,14 +65,14 @@ fn a_call(side: &mut impl FnMut(usize) -> Timed, calls: usize) -> f64 {
     time.as_secs_f64() * 1e9 / made as f64
 }
 
-/// The median, and how far the rounds lie apart, in percent of it.
-fn median(mut rounds: Vec<f64>) -> (f64, f64) {
-    rounds.sort_by(f64::total_cmp);
-    let [least, middle, most] = [0, ROUNDS / 2, ROUNDS - 1].map(|index| rounds[index]);
-    (middle, (most - least) / middle * 100.0)
+/// The figure of a row, and how far its rounds lie apart, in percent of it.
+fn figure(mut times: Vec<f64>) -> (f64, f64) {
+    times.sort_by(f64::total_cmp);
+    let [least, told, most] = [0, rounds().told, times.len() - 1].map(|index| times[index]);
+    (told, (most - least) / told * 100.0)
 }
 
-/// A row of the table: the medians of alternating rounds, their ratio, and how far
+/// A row of the table: the figures of alternating rounds, their ratio, and how far
 /// the rounds of either side lie apart.
 pub fn line(
     name: &str,
@@ -56,22 +81,22 @@ pub fn line(
 ) {
     // The first calls are slow, and count in no round.
     let slower = a_call(&mut original, 1000).max(a_call(&mut ours, 1000));
-    let calls = (ROUND / slower) as usize + 1;
+    let calls = (rounds().length / slower) as usize + 1;
     let (mut first, mut second) = (Vec::new(), Vec::new());
-    for _ in 0..ROUNDS {
+    for _ in 0..rounds().number {
         first.push(a_call(&mut original, calls));
         second.push(a_call(&mut ours, calls));
     }
-    let ((first, apart), (second, our_apart)) = (median(first), median(second));
+    let ((first, apart), (second, our_apart)) = (figure(first), figure(second));
     let (ratio, apart) = (second / first, apart.max(our_apart));
     println!("| {name} | {first:.1} | {second:.1} | {ratio:.2} | {apart:.0} % |");
 }
 
 /// A row of a call that the original does not have.
 pub fn ours_alone(name: &str, mut ours: impl FnMut(usize) -> Timed) {
-    let calls = (ROUND / a_call(&mut ours, 1000)) as usize + 1;
-    let rounds = (0..ROUNDS).map(|_| a_call(&mut ours, calls)).collect();
-    let (here, apart) = median(rounds);
+    let calls = (rounds().length / a_call(&mut ours, 1000)) as usize + 1;
+    let times = (0..rounds().number).map(|_| a_call(&mut ours, calls));
+    let (here, apart) = figure(times.collect());
     println!("| {name} | – | {here:.1} | – | {apart:.0} % |");
 }
 
@@ -477,10 +502,13 @@ fn scan_bytes() {
     }
 }
 
-pub fn run(seed: u64) -> bool {
+pub fn run(seed: u64, asked: Rounds) -> bool {
+    let figure = if asked.told == 0 { "least" } else { "median" };
     println!(
-        "seed {seed}; nanoseconds of processor time a call, medians of {ROUNDS} alternating rounds; the last column:"
+        "seed {seed}; nanoseconds of processor time a call, the {figure} of {} alternating rounds; the last column:",
+        asked.number
     );
+    ROUNDS.get_or_init(|| asked);
     println!("how far the rounds lie apart, from the least to the most");
     println!();
     println!("| call | the Rust | here | ratio | apart |");
