@@ -24,7 +24,7 @@ use ffi::look_words::{
 use replay::{added, fill, sum_of, sum_of_words, widened};
 
 // The number of a call, and the sum of what it gives.
-#[derive(Drop)]
+#[derive(Clone, Copy)]
 struct Given {
     number: u64,
     sum: u64,

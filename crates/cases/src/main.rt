@@ -3,6 +3,8 @@
 // what is asked and what the original answers (controller_cases.rt); session_cases.rt says what a session
 // is. A case that differs is named by its number in the list, and so is one that is none, behind which
 // nothing is read; then the cases are counted. The file `stdout` holds all of this as it should be.
+#![tactic(auto)]
+
 mod controller_cases;
 mod session_cases;
 
@@ -10,7 +12,7 @@ use libc::STDOUT_FILENO;
 use replay::{Case, Tally};
 
 // A case: the place behind it, and whether ours answers as it says.
-#[derive(Drop)]
+#[derive(Clone, Copy)]
 enum Replayed {
     Case { next: usize, agrees: bool },
     None,

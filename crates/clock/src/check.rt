@@ -9,14 +9,14 @@ use crate::rate::Rate;
 use crate::wide::product_is;
 
 // Why a call is turned down: `number` of specs/Check.antt gives each its number.
-#[derive(Drop)]
+#[derive(Clone, Copy)]
 pub enum Refusal {
     Time,
     Rate,
     Clock,
 }
 
-#[derive(Drop)]
+#[derive(Clone, Copy)]
 pub enum Check {
     Passed,
     Refused(Refusal),

@@ -14,7 +14,7 @@ use crate::wide::{Wide, difference, div, mul_add, sum};
 
 // `at` is the time of the last edge passed and `fraction` what it is later than that, in
 // 1 / denominator fraction units; `whole` and `remainder` are the period in the same units.
-#[derive(Drop)]
+#[derive(Clone, Copy)]
 pub struct Clock {
     pub at: Time,
     pub whole: Wide,
@@ -24,27 +24,27 @@ pub struct Clock {
     pub ordinal: u64,
 }
 
-#[derive(Drop)]
+#[derive(Clone, Copy)]
 pub enum Made {
     Clock(Clock),
     Refused(Refusal),
 }
 
-#[derive(Drop)]
+#[derive(Clone, Copy)]
 pub enum Edges {
     Count(u64),
     Refused(Refusal),
 }
 
 // How many edges were passed, and the clock moved by them.
-#[derive(Drop)]
+#[derive(Clone, Copy)]
 pub enum Passed {
     Edges { count: u64, clock: Clock },
     Refused(Refusal),
 }
 
 // The answer of `advance`, and the clock that it leaves.
-#[derive(Drop)]
+#[derive(Clone, Copy)]
 struct Advanced {
     check: Check,
     clock: Clock,

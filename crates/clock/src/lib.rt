@@ -1,5 +1,7 @@
 // The clock of the display controller: time as seconds and a fraction, the LCD rates, and a
 // rational clock whose edges are counted and passed without a loop. Document 01, 'Clock'.
+#![tactic(auto)]
+
 mod check;
 mod edges;
 mod position;

@@ -3,7 +3,7 @@ ghost use Rattle.std.specs.Prelude.{◌≡◌};
 ghost use Rattle.clock.specs.Rate.{lcd_rate, same_rate, is_lcd, by_rows, by_oscillator, is_oscillator_rate};
 
 // numerator / denominator edges a second.
-#[derive(Drop)]
+#[derive(Clone, Copy)]
 pub struct Rate {
     pub numerator: u64,
     pub denominator: u64,

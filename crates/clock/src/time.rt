@@ -6,21 +6,21 @@ ghost use Rattle.clock.specs.Wide.{wide_of};
 use crate::wide::Wide;
 
 // A moment: seconds since power-on and 2^64ths of a second.
-#[derive(Drop)]
+#[derive(Clone, Copy)]
 pub struct Time {
     pub seconds: u64,
     pub fraction: u64,
 }
 
 // A span of time, in the same units.
-#[derive(Drop)]
+#[derive(Clone, Copy)]
 pub struct Duration {
     pub seconds: u64,
     pub fraction: u64,
 }
 
 // A time later by a duration, or that it is past the largest time.
-#[derive(Drop)]
+#[derive(Clone, Copy)]
 pub enum Sum {
     At(Time),
     Overflow,

@@ -14,7 +14,7 @@ use crate::state::Nt7508;
 use clock::Time;
 
 // The step that bits make, with the byte that is to be stored; or the refusal and the state given.
-#[derive(Drop)]
+#[derive(Clone, Copy)]
 pub struct Taken {
     pub check: Check,
     pub stepped: Stepped,
@@ -22,7 +22,7 @@ pub struct Taken {
 
 // The state after bits, and the event of the byte that they completed; or the refusal and the state
 // given.
-#[derive(Drop)]
+#[derive(Clone, Copy)]
 pub struct Received {
     pub check: Check,
     pub state: Nt7508,

@@ -11,7 +11,7 @@ use clock::Time;
 use scan::{Scan, ScanClock};
 
 // Why a call is turned down: `number` of specs/Check.antt gives each its number.
-#[derive(Drop)]
+#[derive(Clone, Copy)]
 pub enum Refusal {
     Memory,
     Image,
@@ -23,14 +23,14 @@ pub enum Refusal {
     Group,
 }
 
-#[derive(Drop)]
+#[derive(Clone, Copy)]
 pub enum Check {
     Passed,
     Refused(Refusal),
 }
 
 // The state after a call, or the refusal and the state given.
-#[derive(Drop)]
+#[derive(Clone, Copy)]
 pub struct Changed {
     pub check: Check,
     pub state: Nt7508,

@@ -5,14 +5,14 @@ ghost use Rattle.controller.specs.Event.{unstored as unstoredOf};
 use crate::state::Nt7508;
 use clock::Time;
 
-#[derive(Drop)]
+#[derive(Clone, Copy)]
 pub enum Parameter {
     None,
     Byte(u8),
 }
 
 // A data byte with its page and column as they were, or a command with the parameter that it awaited.
-#[derive(Drop)]
+#[derive(Clone, Copy)]
 pub enum Event {
     None,
     Write {
@@ -29,7 +29,7 @@ pub enum Event {
 }
 
 // The byte of RAM or icons that a data byte sets.
-#[derive(Drop)]
+#[derive(Clone, Copy)]
 pub enum Store {
     Nothing,
     Ram { at: usize, value: u8 },
@@ -38,7 +38,7 @@ pub enum Store {
 
 // The state after a byte, its event, and what is to be stored: the core of a byte reads memory and
 // writes none, so that thin calls store it wherever the memory stands.
-#[derive(Drop)]
+#[derive(Clone, Copy)]
 pub struct Stepped {
     pub state: Nt7508,
     pub event: Event,

@@ -16,7 +16,7 @@ use scan::{Running, Scan};
 
 // Whether a byte takes the fast path, and then the scan and the address after it, its event, and the byte
 // that is to be stored.
-#[derive(Drop)]
+#[derive(Clone, Copy)]
 pub struct FastStep {
     pub fast: bool,
     pub scan: Scan,

@@ -1,5 +1,7 @@
 // The controller: bits, bytes and commands, supply and start-up wait, the checks of its state, and what
 // the panel, the power board and the bench read of it. Document 01, 'Controller'.
+#![tactic(auto)]
+
 mod bits;
 mod byte;
 mod check;

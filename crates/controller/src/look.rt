@@ -13,35 +13,35 @@ use clock::Time;
 use scan::LcdDrive;
 use voltage::LcdVoltages;
 
-#[derive(Drop)]
+#[derive(Clone, Copy)]
 pub enum Voltages {
     Levels(LcdVoltages),
     Refused(Refusal),
 }
 
 // The drive and the frame length; refused they are those of no drive.
-#[derive(Drop)]
+#[derive(Clone, Copy)]
 pub struct Driven {
     pub check: Check,
     pub drive: LcdDrive,
     pub frame: u16,
 }
 
-#[derive(Drop)]
+#[derive(Clone, Copy)]
 pub enum EffectEdges {
     Edges(u8),
     Refused(Refusal),
 }
 
 // The end of the wait; none where there is no wait.
-#[derive(Drop)]
+#[derive(Clone, Copy)]
 pub enum Deadline {
     At(Time),
     None,
     Refused(Refusal),
 }
 
-#[derive(Drop)]
+#[derive(Clone, Copy)]
 pub enum Found {
     Setting { regulator: u8, contrast: u8 },
     None,

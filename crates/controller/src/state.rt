@@ -7,14 +7,14 @@ use clock::Time;
 use scan::Scan;
 
 // A command byte that awaits its parameter.
-#[derive(Drop)]
+#[derive(Clone, Copy)]
 pub enum Pending {
     None,
     Command(u8),
 }
 
 // The serial line: whether it is selected and carries data, and the bits of the byte under way.
-#[derive(Drop)]
+#[derive(Clone, Copy)]
 pub struct Serial {
     pub selected: bool,
     pub data: bool,
@@ -24,14 +24,14 @@ pub struct Serial {
 }
 
 // A column that was put aside.
-#[derive(Drop)]
+#[derive(Clone, Copy)]
 pub enum SavedColumn {
     None,
     Column(u16),
 }
 
 // Where the next data byte goes. Page 16 is that of the icons.
-#[derive(Drop)]
+#[derive(Clone, Copy)]
 pub struct Address {
     pub page: u8,
     pub column_byte: u16,
@@ -39,13 +39,13 @@ pub struct Address {
 }
 
 // The end of the start-up wait, while it lasts.
-#[derive(Drop)]
+#[derive(Clone, Copy)]
 pub enum Ready {
     Now,
     At(Time),
 }
 
-#[derive(Drop)]
+#[derive(Clone, Copy)]
 pub struct Power {
     pub display_on: bool,
     pub power_save: bool,
@@ -57,7 +57,7 @@ pub struct Power {
     pub ready: Ready,
 }
 
-#[derive(Drop)]
+#[derive(Clone, Copy)]
 pub struct Nt7508 {
     pub scan: Scan,
     pub display: scan::Settings,

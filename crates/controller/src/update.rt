@@ -8,7 +8,7 @@ use clock::Time;
 
 // The state with its scan counted to the moment, and how many pieces that took; or the refusal and the
 // state given.
-#[derive(Drop)]
+#[derive(Clone, Copy)]
 pub struct Updated {
     pub check: Check,
     pub state: Nt7508,

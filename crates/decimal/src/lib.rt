@@ -1,6 +1,8 @@
 // Reads unsigned decimals out of a text: digits with no leading zero, in 64 bits. A line of them has
 // one space between two and a newline after the last. A place in the text is an index. `print` puts
 // them into lent bytes.
+#![tactic(auto)]
+
 ghost use Rattle.std.specs.Prelude.{◌≡◌, length, get_or};
 ghost use Rattle.decimal.specs.Decimal.{is_digit, number_of, number_at, field_at, separator, line_at};
 
@@ -9,14 +11,14 @@ mod print;
 pub use print::{put_byte, put_bytes, put_number};
 
 // A number and the place after it, or that there is none.
-#[derive(Drop)]
+#[derive(Clone, Copy)]
 pub enum Read {
     Number { value: u64, next: usize },
     Malformed,
 }
 
 // The place after a line, or that the line is not as it should be.
-#[derive(Drop)]
+#[derive(Clone, Copy)]
 pub enum Line {
     Ended(usize),
     Malformed,

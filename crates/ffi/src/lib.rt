@@ -2,6 +2,8 @@
 // in and out, one module for each layer. A call that is turned down answers the number that
 // document 01's table gives and changes no lent array; any other answers 0. Only a session goes on from
 // line to line, and leaves what the lines before a refused one did.
+#![tactic(auto)]
+
 pub mod clock_words;
 pub mod controller_words;
 pub mod drive_words;

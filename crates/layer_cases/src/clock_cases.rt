@@ -21,7 +21,7 @@ fn print_edges(clock: Clock, rate: Rate, now: Time) {
 }
 
 // The answer, and the clock that is left.
-#[derive(Drop)]
+#[derive(Clone, Copy)]
 struct Advanced {
     check: Check,
     clock: Clock,

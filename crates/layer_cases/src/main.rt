@@ -4,6 +4,8 @@
 // asked, and what the original answers. A line that differs is named, also where a field cannot hold its
 // number, and so is one that holds no case, behind which nothing is read; then the cases are counted. The
 // file `stdout` holds all of this as it should be.
+#![tactic(auto)]
+
 mod clock_cases;
 mod scan_cases;
 mod voltage_cases;

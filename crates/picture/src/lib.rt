@@ -1,4 +1,6 @@
 // The panel at the end of a session as a PGM picture in lent bytes.
+#![tactic(auto)]
+
 ghost use Rattle.std.specs.Prelude.{◌≡◌, map};
 ghost use Rattle.std.proofs.Math.Option.{none};
 ghost use Rattle.controller.specs.Check.{check_state};

@@ -1,5 +1,7 @@
 // The picture program: a session text on standard input, the panel at its end on standard output as a
 // PGM picture.
+#![tactic(auto)]
+
 use libc::{STDIN_FILENO, STDOUT_FILENO};
 
 fn main() {

@@ -5,7 +5,7 @@ ghost use Rattle.replay.specs.Cases.{length_of, case_at};
 use decimal::{Line, Read};
 
 // The kind of a case and the place of the next line, or that the line holds no case.
-#[derive(Drop)]
+#[derive(Clone, Copy)]
 pub enum Case {
     Of { kind: u64, next: usize },
     None,

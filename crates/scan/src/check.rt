@@ -9,7 +9,7 @@ use crate::state::{Inversion, Scan, ScanClock};
 use clock::Time;
 
 // Why a call is turned down: `number` of specs/Check.antt gives each its number.
-#[derive(Drop)]
+#[derive(Clone, Copy)]
 pub enum Refusal {
     Memory,
     Image,
@@ -19,14 +19,14 @@ pub enum Refusal {
     Clock,
 }
 
-#[derive(Drop)]
+#[derive(Clone, Copy)]
 pub enum Check {
     Passed,
     Refused(Refusal),
 }
 
 // The scan after a call, or the refusal and the scan given.
-#[derive(Drop)]
+#[derive(Clone, Copy)]
 pub struct Changed {
     pub check: Check,
     pub scan: Scan,

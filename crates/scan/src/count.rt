@@ -15,7 +15,7 @@ use crate::stretch::in_pieces;
 use clock::{Clock, Rate, Time};
 
 // The scan counted to a moment, and how many pieces that took; or the refusal and the scan given.
-#[derive(Drop)]
+#[derive(Clone, Copy)]
 pub struct Counted {
     pub check: Check,
     pub scan: Scan,

@@ -17,7 +17,7 @@ use clock::Time;
 use voltage::{Answer, LcdVoltages, Level, Supply};
 
 // The conditions, besides the settings, that decide whether the glass is driven.
-#[derive(Drop)]
+#[derive(Clone, Copy)]
 pub struct Conditions {
     pub display_on: bool,
     pub oscillator_enabled: bool,
@@ -25,7 +25,7 @@ pub struct Conditions {
 }
 
 // The common that is selected. Common 128 is that of the icons.
-#[derive(Drop)]
+#[derive(Clone, Copy)]
 pub enum Common {
     Selected(u8),
     None,
@@ -33,7 +33,7 @@ pub enum Common {
 
 // Bit n % 64 of word n / 64 is segment n, active relative to the selected common. With `grounded`
 // every electrode is at 0.
-#[derive(Drop)]
+#[derive(Clone, Copy)]
 pub struct LcdDrive {
     pub voltages: LcdVoltages,
     pub common: Common,
@@ -44,7 +44,7 @@ pub struct LcdDrive {
 
 // The drive and the frame of the scan shown, in quanta (duty x PWM, 0 where undriven); or the refusal
 // and the undriven drive.
-#[derive(Drop)]
+#[derive(Clone, Copy)]
 pub struct Driven {
     pub check: Check,
     pub drive: LcdDrive,
@@ -53,7 +53,7 @@ pub struct Driven {
 
 // The voltage of an electrode in microvolts; none where it has no level or there is no such
 // electrode.
-#[derive(Drop)]
+#[derive(Clone, Copy)]
 pub enum Electrode {
     Microvolts(u32),
     None,

@@ -19,7 +19,7 @@ use crate::state::{Inversion, Scan, ScanClock, with_ticking};
 use clock::{Clock, Passed, Time};
 
 // Whether a byte takes the fast path, and the scan after it; the scan given, where it does not.
-#[derive(Drop)]
+#[derive(Clone, Copy)]
 pub struct FastScan {
     pub fast: bool,
     pub scan: Scan,

@@ -8,7 +8,7 @@ use crate::settings::Settings;
 use crate::state::{Latch, Scan};
 
 // The page that a data byte goes to, or none for a command.
-#[derive(Drop)]
+#[derive(Clone, Copy)]
 pub enum DataPage {
     None,
     Page(u8),

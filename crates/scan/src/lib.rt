@@ -1,5 +1,7 @@
 // The scan of the LCD: its settings and counters, counting by quanta, the output latch, the drive of
 // the electrodes and the gray image. Document 01, 'Scan' and 'Drive, electrodes, image'.
+#![tactic(auto)]
+
 mod byte;
 mod check;
 mod closed;

@@ -14,7 +14,7 @@ use crate::state::{Inversion, Latch, Scan, ScanClock, Ticking, start_clock, with
 use clock::Time;
 
 // The effect of a byte on the scan: it makes it run, leaves it running, or the scan does not run.
-#[derive(Drop)]
+#[derive(Clone, Copy)]
 pub enum Running {
     Begins,
     Continues,

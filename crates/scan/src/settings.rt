@@ -4,7 +4,7 @@ ghost use Rattle.scan.specs.Settings.{pwm_of, frc_count_of, frame_of, rows_in, r
 
 use clock::Rate;
 
-#[derive(Drop)]
+#[derive(Clone, Copy)]
 pub struct Settings {
     pub start_line: u8,
     pub icon_enabled: bool,
@@ -22,7 +22,7 @@ pub struct Settings {
 }
 
 // The settings that a frame end takes, and the scan holds until the next.
-#[derive(Drop)]
+#[derive(Clone, Copy)]
 pub struct Frame {
     pub duty: u8,
     pub icon: bool,

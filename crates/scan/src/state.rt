@@ -9,14 +9,14 @@ use crate::settings::Frame;
 use clock::{Clock, Made, Rate, Time};
 
 // The scan's clock, where it runs.
-#[derive(Drop)]
+#[derive(Clone, Copy)]
 pub enum ScanClock {
     Running(Clock),
     Stopped,
 }
 
 // The clock and the rate of the scan.
-#[derive(Drop)]
+#[derive(Clone, Copy)]
 pub struct Ticking {
     pub clock: ScanClock,
     pub rate: Rate,
@@ -24,14 +24,14 @@ pub struct Ticking {
 
 // The output latch. `segments` holds it where `latched`; elsewhere it is that of the present memory
 // and settings.
-#[derive(Drop)]
+#[derive(Clone, Copy)]
 pub struct Latch {
     pub segments: [u64; 2],
     pub latched: bool,
 }
 
 // The polarity, and the rows since it last changed where it changes every `lines` rows.
-#[derive(Drop)]
+#[derive(Clone, Copy)]
 pub struct Inversion {
     pub lines: u8,
     pub count: u8,
@@ -40,7 +40,7 @@ pub struct Inversion {
 
 // The scan: the settings in force since the last frame or row end, the counters, and the
 // output latch.
-#[derive(Drop)]
+#[derive(Clone, Copy)]
 pub struct Scan {
     pub ticking: Ticking,
     pub latch: Latch,

@@ -18,7 +18,7 @@ use crate::state::{Latch, Scan, ScanClock, Ticking, start_clock, with_ticking};
 use clock::{Clock, Passed, Rate, Time};
 
 // Quanta counted, and the uses of the piece rule that took.
-#[derive(Drop)]
+#[derive(Clone, Copy)]
 struct Run {
     scan: Scan,
     pieces: u64,

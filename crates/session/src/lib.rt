@@ -1,5 +1,7 @@
 // The session program on slices: a text of calls in, a listing of drives out. Document 01, 'Session
 // program'.
+#![tactic(auto)]
+
 mod line;
 mod listing;
 mod session;

@@ -7,7 +7,7 @@ use crate::text::starts;
 use decimal::Read;
 
 // The action that a word and its value ask for.
-#[derive(Drop)]
+#[derive(Clone, Copy)]
 pub enum Action {
     Byte(u8),
     Data(bool),
@@ -20,7 +20,7 @@ pub enum Action {
     Malformed,
 }
 
-#[derive(Drop)]
+#[derive(Clone, Copy)]
 pub struct Line {
     pub us: u64,
     pub action: Action,

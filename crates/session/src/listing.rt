@@ -8,14 +8,14 @@ use scan::{Common, LcdDrive};
 use voltage::Level;
 
 // A field: a number, or `-`.
-#[derive(Drop)]
+#[derive(Clone, Copy)]
 pub enum Field {
     Number(u64),
     Nothing,
 }
 
 // The fields that are printed of a drive.
-#[derive(Drop)]
+#[derive(Clone, Copy)]
 pub struct Row {
     pub lit: u64,
     pub common: Common,

@@ -16,14 +16,14 @@ use clock::Time;
 use controller::{Changed, Check, Driven, Nt7508, Ready, Received, Refusal, Updated};
 
 // Why a session stops: its text, a lent listing that is too short, or a call's own refusal.
-#[derive(Drop)]
+#[derive(Clone, Copy)]
 pub enum Why {
     Line,
     Listing,
     Call(Refusal),
 }
 
-#[derive(Drop)]
+#[derive(Clone, Copy)]
 pub enum End {
     Whole,
     Refused { why: Why, line: u64 },
@@ -31,7 +31,7 @@ pub enum End {
 
 // Where a session ended: the state, how many bytes of the lent listing were written, and the refusal
 // that stopped it.
-#[derive(Drop)]
+#[derive(Clone, Copy)]
 pub struct Ended {
     pub state: Nt7508,
     pub written: usize,
@@ -39,21 +39,21 @@ pub struct Ended {
 }
 
 // Whether a line is refused.
-#[derive(Drop)]
+#[derive(Clone, Copy)]
 enum Verdict {
     Passed,
     Refused(Why),
 }
 
 // The reply of a line that is to be printed, if any.
-#[derive(Drop)]
+#[derive(Clone, Copy)]
 enum Shown {
     Nothing,
     Drive(Row),
 }
 
 // A line done: the state after it, or the refusal and the state given.
-#[derive(Drop)]
+#[derive(Clone, Copy)]
 struct Done {
     verdict: Verdict,
     state: Nt7508,
@@ -61,7 +61,7 @@ struct Done {
 }
 
 // The same with what it showed printed, and the place behind that.
-#[derive(Drop)]
+#[derive(Clone, Copy)]
 struct Step {
     verdict: Verdict,
     state: Nt7508,

@@ -1,5 +1,7 @@
 // The session program: a text on standard input, its listing on standard output. Document 01, 'Session
 // program'.
+#![tactic(auto)]
+
 use libc::{STDIN_FILENO, STDOUT_FILENO};
 
 fn main() {

@@ -6,7 +6,7 @@ use crate::Settings;
 use crate::target::has_bit;
 
 // Why a call is turned down: `number` of specs/Check.antt gives it its number.
-#[derive(Drop)]
+#[derive(Clone, Copy)]
 pub enum Refusal {
     Settings,
 }

@@ -7,7 +7,7 @@ use crate::target::{base_of, gain_of, microvolts_of, temperature_factor, widened
 use crate::{Refusal, Settings};
 
 // The answer to `find_setting`: a pair in the band, or that there is none, or why it was turned down.
-#[derive(Drop)]
+#[derive(Clone, Copy)]
 pub enum Found {
     Setting { regulator: u8, contrast: u8 },
     None,

@@ -1,6 +1,8 @@
 // The supplies of the LCD (document 01, 'Voltage' and 'Setting finder'): the settings that the
 // rules read, the types of the answers, and `voltages`. The settings' check stands in check.rt, the
 // target in target.rt, the pump and V0 to V4 in levels.rt, the setting finder in finder.rt.
+#![tactic(auto)]
+
 ghost use Rattle.std.specs.Prelude.{◌≡◌};
 ghost use Rattle.voltage.specs.Voltage.{off};
 ghost use Rattle.voltage.specs.Answers.{answered, answer_of};
@@ -13,7 +15,7 @@ mod target;
 pub use check::Refusal;
 
 // The controller's settings that the voltages read, under the names that the controller has.
-#[derive(Drop)]
+#[derive(Clone, Copy)]
 pub struct Settings {
     pub contrast: u8,
     pub regulator: u8,
@@ -26,7 +28,7 @@ pub struct Settings {
 }
 
 // The inputs of the voltages besides the settings. `waiting` is the wait after a cold rise of the supply.
-#[derive(Drop)]
+#[derive(Clone, Copy)]
 pub struct Supply {
     pub temperature_millicelsius: i32,
     pub supply_millivolts: u16,
@@ -35,7 +37,7 @@ pub struct Supply {
 }
 
 // A supply that is absent (not driven within the documented conditions), or its microvolts.
-#[derive(Drop)]
+#[derive(Clone, Copy)]
 pub enum Level {
     Absent,
     Microvolts(u32),
@@ -44,7 +46,7 @@ pub enum Level {
 // The pump, the target in microvolts, and V0 to V4. Five fields stand for the Rust's array of
 // five, since a struct's array of enums is not covered by the borrow checker. Levels that are read
 // one after another lie apart: in pairs they would be loaded before both are stored, which stalls.
-#[derive(Drop)]
+#[derive(Clone, Copy)]
 pub struct LcdVoltages {
     pub pump: Level,
     pub target: u32,
@@ -76,7 +78,7 @@ fn off_voltages() -> LcdVoltages
 }
 
 // The answer to `voltages`.
-#[derive(Drop)]
+#[derive(Clone, Copy)]
 pub enum Answer {
     Voltages(LcdVoltages),
     Refused(Refusal),
