@@ -10,7 +10,7 @@ returns : tie.Need-returns
 unfolding answer_of
 returns c = rw (sym c.before.valid.ensures ∙ not-true _ c.if1.true)
 
-voltages-of-requires : tie.Need-voltages-of-requires
+voltages-of-requires : tie.Need-voltages_of-requires
 voltages-of-requires c κs = sym c.before.valid.ensures ∙ not-false _ c.if1.false
 
 returns-2 : tie.Need-returns-2

@@ -6,22 +6,22 @@ use Rattle.clock.proofs.Words.{digit_lt, digit_fits, long_division}
 use Rattle.clock.proofs.wide.div.Statement.{statement}
 use Rattle.clock.proofs.wide.div.Tie as tie
 
-mul-t : tie.Need-overflow-mul-t
+mul-t : tie.Need-overflow_mul-t
 mul-t c =
     let a = c.before.args in
     omega (arith, digit_lt a.w.high (a.w.low / 2 ^ 32) a.d (2 ^ 32) c.before.requires.0 (omega arith))
 
-add-t : tie.Need-overflow-add-t
+add-t : tie.Need-overflow_add-t
 add-t c =
     let a = c.before.before.args in
     omega (arith, digit_lt a.w.high (a.w.low / 2 ^ 32) a.d (2 ^ 32) c.before.before.requires.0 (omega arith))
 
-mul-u : tie.Need-overflow-mul-u
+mul-u : tie.Need-overflow_mul-u
 mul-u c =
     let a = c.before.before.args in
     omega (arith, digit_lt (a.w.high % a.d * 2 ^ 32 + a.w.low / 2 ^ 32) (a.w.low % 2 ^ 32) a.d (2 ^ 32) c.before.before.requires.0 (omega arith))
 
-add-u : tie.Need-overflow-add-u
+add-u : tie.Need-overflow_add-u
 add-u c =
     let a = c.before.before.before.args in
     omega (arith, digit_lt (a.w.high % a.d * 2 ^ 32 + a.w.low / 2 ^ 32) (a.w.low % 2 ^ 32) a.d (2 ^ 32) c.before.before.before.requires.0 (omega arith))

@@ -6,18 +6,18 @@ use Rattle.clock.proofs.Words.{words, half_product, columns, low_column_le, midd
 use Rattle.clock.proofs.wide.mul_add.Statement.{statement}
 use Rattle.clock.proofs.wide.mul_add.Tie as tie
 
-mul-t : tie.Need-overflow-mul-t
+mul-t : tie.Need-overflow_mul-t
 mul-t c = omega (arith, half_product {a = c.before.args.w.low % 2 ^ 32} (omega arith) c.before.requires.1.0)
 
-add-t : tie.Need-overflow-add-t
+add-t : tie.Need-overflow_add-t
 add-t c =
     let a = c.before.args in
     omega (arith, low_column_le a.w.high a.w.low a.m a.c c.before.requires.1.0 c.before.requires.1.1)
 
-mul-u : tie.Need-overflow-mul-u
+mul-u : tie.Need-overflow_mul-u
 mul-u c = omega (arith, half_product {a = c.before.before.args.w.low / 2 ^ 32} (omega arith) c.before.before.requires.1.0)
 
-add-u : tie.Need-overflow-add-u
+add-u : tie.Need-overflow_add-u
 add-u c =
     let a = c.before.before.args in
     omega (arith, middle_column_le a.w.high a.w.low a.m a.c c.before.before.requires.1.0 c.before.before.requires.1.1 (omega arith))

@@ -6,18 +6,18 @@ use Rattle.clock.proofs.Words.{half_product, low_column_le, middle_column_le, by
 use Rattle.clock.proofs.wide.product_is.Statement.{statement}
 use Rattle.clock.proofs.wide.product_is.Tie as tie
 
-mul-t : tie.Need-overflow-mul-t
+mul-t : tie.Need-overflow_mul-t
 mul-t c = omega (arith, half_product {a = c.args.low % 2 ^ 32} (omega arith) c.requires.0)
 
-add-t : tie.Need-overflow-add-t
+add-t : tie.Need-overflow_add-t
 add-t c =
     let a = c.args in
     omega (arith, low_column_le 0 a.low a.m a.c c.requires.0 c.requires.1.0)
 
-mul-u : tie.Need-overflow-mul-u
+mul-u : tie.Need-overflow_mul-u
 mul-u c = omega (arith, half_product {a = c.args.low / 2 ^ 32} (omega arith) c.requires.0)
 
-add-u : tie.Need-overflow-add-u
+add-u : tie.Need-overflow_add-u
 add-u c =
     let a = c.args in
     omega (arith, middle_column_le 0 a.low a.m a.c c.requires.0 c.requires.1.0 (omega arith))

@@ -6,7 +6,7 @@ use Rattle.voltage.proofs.Settings.valid.Tie as tie
 
 returns : tie.Need-returns
 unfolding valid_settings
-returns c = rw c.before.before.before.before.valid-booster.ensures
+returns c = rw c.before.before.before.before.valid_booster.ensures
 
 pub valid-spec : {M : Type 1} → statement M
 valid-spec = tie.close (tie.spec (λ c κs. search rules) returns)

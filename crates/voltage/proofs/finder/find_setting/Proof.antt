@@ -51,7 +51,7 @@ loop-holds c = (omega arith, ((λ p h. absurd (omega arith)), λ h. absurd (h re
 scaled-at-requires : tie.Need-scaled-at-requires invariant-loop decreases-loop
 scaled-at-requires c κs = ((c.before.before.before.temperature-factor.ensures.1, omega arith), c.before.loop.invariant.1.1)
 
-in-band-requires : tie.Need-in-band-requires invariant-loop decreases-loop
+in-band-requires : tie.Need-in_band-requires invariant-loop decreases-loop
 in-band-requires c κs = (
   rw c.Scaled-at.ensures (scaled_below _ _ c.before.before.before.before.temperature-factor.ensures.1 (gain_below _ (omega arith))),
   (c.before.before.before.base-of.ensures.1, omega arith),

@@ -5,8 +5,8 @@ use native.Mathlib.Omega.{arith}
 use Rattle.voltage.proofs.finder.scaled_at.Statement.{statement}
 use Rattle.voltage.proofs.finder.scaled_at.Tie as tie
 
-mul-result : tie.Need-overflow-mul-result
-mul-result c = omega (arith, scaled_below _ _ c.before.before.requires.0.0 c.gain-of.ensures.1)
+mul-result : tie.Need-overflow_mul-result
+mul-result c = omega (arith, scaled_below _ _ c.before.before.requires.0.0 c.gain_of.ensures.1)
 
 returns : tie.Need-returns
 returns c = rw c.gain-of.ensures.0

@@ -10,16 +10,16 @@ use native.Mathlib.Omega.{arith}
 use Rattle.voltage.proofs.levels.pump_of.Statement.{statement}
 use Rattle.voltage.proofs.levels.pump_of.Tie as tie
 
-mul-microvolts-2 : tie.Need-overflow-mul-microvolts-2
+mul-microvolts-2 : tie.Need-overflow_mul-microvolts-2
 mul-microvolts-2 c =
     let booster = c.before.before.before.args.settings.booster in
-    let m : c.multiple-of.result ≤ 8 = rw c.multiple-of.ensures (at_most_limit 8 (3 + booster % 4 + cond (has_bit booster 3) 4 0)) in
+    let m : c.multiple_of.result ≤ 8 = rw c.multiple_of.ensures (at_most_limit 8 (3 + booster % 4 + cond (has_bit booster 3) 4 0)) in
     let v : c.before.before.before.args.supply.supply_millivolts * 1000 ≤ 65535000 = omega arith in
     omega (arith, mul-le-mul v m)
 
 returns : tie.Need-returns
 unfolding pump
-returns c = simp (c.level_at.ensures, c.before.multiple-of.ensures, c.before.before.before.pump-present.ensures)
+returns c = simp (c.level_at.ensures, c.before.multiple_of.ensures, c.before.before.before.pump-present.ensures)
 
 pub pump-of-spec : {M : Type 1} → statement M
 pump-of-spec =

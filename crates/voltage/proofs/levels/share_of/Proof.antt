@@ -11,13 +11,13 @@ use Rattle.voltage.proofs.levels.share_of.Tie as tie
 product : (c : tie.After-widened2) → c.before.before.args.target * c.widened2.result ≤ 2 ^ 32 * 256
 product c = mul-le-mul {n₂ = 2 ^ 32} {m₂ = 256} (omega arith) (omega arith)
 
-mul-sum : tie.Need-overflow-mul-sum
+mul-sum : tie.Need-overflow_mul-sum
 mul-sum c = omega (arith, product c)
 
-add-sum : tie.Need-overflow-add-sum
+add-sum : tie.Need-overflow_add-sum
 add-sum c = omega (arith, product c)
 
-cast-result : tie.Need-overflow-cast-result
+cast-result : tie.Need-overflow_cast-result
 unfolding share
 cast-result c =
     let start = c.before.before in

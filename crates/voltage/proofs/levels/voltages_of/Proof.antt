@@ -9,7 +9,7 @@ use native.Mathlib.Omega.{arith}
 use Rattle.voltage.proofs.levels.voltages_of.Statement.{statement}
 use Rattle.voltage.proofs.levels.voltages_of.Tie as tie
 
-add-n : tie.Need-overflow-add-n
+add-n : tie.Need-overflow_add-n
 add-n c = omega (arith, (in_range_lem _ c.before.before.before.before.before.before.requires).bias)
 
 returns : tie.Need-returns

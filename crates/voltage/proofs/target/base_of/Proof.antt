@@ -10,7 +10,7 @@ use Rattle.voltage.proofs.target.base_of.Tie as tie
 
 returns : tie.Need-returns
 unfolding trim
-returns c = (rw (sym c.before.has-bit.ensures ∙ not-true _ c.if1.true), omega arith)
+returns c = (rw (sym c.before.has_bit.ensures ∙ not-true _ c.if1.true), omega arith)
 
 returns-2 : tie.Need-returns-2
 unfolding trim

@@ -5,7 +5,7 @@ use native.Mathlib.Omega.{arith}
 use Rattle.voltage.proofs.target.falling.Statement.{statement}
 use Rattle.voltage.proofs.target.falling.Tie as tie
 
-mul-fall : tie.Need-overflow-mul-fall
+mul-fall : tie.Need-overflow_mul-fall
 mul-fall c = omega (arith, mul-le-mul (le_of_lt c.requires.0) c.requires.1)
 
 pub falling-spec : {M : Type 1} → statement M

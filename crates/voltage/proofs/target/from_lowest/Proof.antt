@@ -29,13 +29,13 @@ module _ (z : ℤ) (fits : SFits w32 z) where
   sum_back : to_z w64 (of_z w64 (z +ℤ pos 2147483648)) ≡ pos sum
   sum_back = rw sum_is (to_z_pos w64 (omega (arith, sum_below)))
 
-cast-result : tie.Need-overflow-cast-result
+cast-result : tie.Need-overflow_cast-result
 cast-result c = rw (to_z-of_z c.ranges.temperature) (sfits_widen tt c.ranges.temperature)
 
-add-result : tie.Need-overflow-add-result
+add-result : tie.Need-overflow_add-result
 add-result c = rw (back _ c.ranges.temperature, sum_is _ c.ranges.temperature) (record { sfits = omega (arith, sum_below _ c.ranges.temperature) })
 
-cast-result-2 : tie.Need-overflow-cast-result-2
+cast-result-2 : tie.Need-overflow_cast-result-2
 cast-result-2 c = rw (back _ c.ranges.temperature, sum_back _ c.ranges.temperature) (tt, omega (arith, sum_below _ c.ranges.temperature))
 
 returns : tie.Need-returns

@@ -7,7 +7,7 @@ use native.Mathlib.Omega.{arith}
 use Rattle.voltage.proofs.target.gain_of.Statement.{statement}
 use Rattle.voltage.proofs.target.gain_of.Tie as tie
 
-cast-result : tie.Need-overflow-cast-result
+cast-result : tie.Need-overflow_cast-result
 unfolding gain
 cast-result c = omega (arith, gain_is _ c.requires)
 

@@ -7,10 +7,10 @@ use native.Mathlib.Omega.{arith}
 use Rattle.voltage.proofs.target.microvolts_of.Statement.{statement}
 use Rattle.voltage.proofs.target.microvolts_of.Tie as tie
 
-mul-microvolts : tie.Need-overflow-mul-microvolts
+mul-microvolts : tie.Need-overflow_mul-microvolts
 mul-microvolts c = omega (arith, mul-le-mul (le_of_lt c.requires.0) (le_of_lt c.requires.1))
 
-add-microvolts : tie.Need-overflow-add-microvolts
+add-microvolts : tie.Need-overflow_add-microvolts
 add-microvolts c = omega (arith, mul-le-mul (le_of_lt c.requires.0) (le_of_lt c.requires.1))
 
 returns : tie.Need-returns

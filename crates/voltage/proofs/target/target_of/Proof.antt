@@ -12,13 +12,13 @@ use Rattle.voltage.proofs.target.target_of.Tie as tie
 base-of-requires : tie.Need-base-of-requires
 base-of-requires c κs = (in_range_lem _ c.before.requires).contrast_trim
 
-gain-of-requires : tie.Need-gain-of-requires
+gain-of-requires : tie.Need-gain_of-requires
 gain-of-requires c κs = omega (arith, (in_range_lem _ c.before.before.requires).regulator)
 
-mul-scaled : tie.Need-overflow-mul-scaled
+mul-scaled : tie.Need-overflow_mul-scaled
 mul-scaled c = omega (arith, scaled_below _ _ c.before.before.temperature-factor.ensures.1 c.gain-of.ensures.1)
 
-microvolts-of-requires : tie.Need-microvolts-of-requires
+microvolts-of-requires : tie.Need-microvolts_of-requires
 microvolts-of-requires c κs = (
   scaled_below _ _ c.before.before.before.temperature-factor.ensures.1 c.before.gain-of.ensures.1,
   omega (arith, (in_range_lem _ c.before.before.before.before.requires).contrast),
@@ -28,7 +28,7 @@ returns : tie.Need-returns
 unfolding target
 returns c =
     let start = c.before.before.before.before.before in
-    c.microvolts-of.ensures
+    c.microvolts_of.ensures
     ∙ rw c.before.widened.ensures
     (target_is start.args.settings start.args.temperature _ _ _ _ _
     (rw (to_z-of_z start.ranges.temperature) at c.before.before.before.before.temperature-factor.ensures.0)

@@ -7,10 +7,10 @@ use Rattle.clock.proofs.edges.Clock.checked.Tie as tie
 
 returns : tie.Need-returns
 unfolding check_clock
-returns c = simp (failed c.before.is-lcd.ensures c.if1.true)
+returns c = simp (failed c.before.is_lcd.ensures c.if1.true)
 
 valid-requires : tie.Need-valid-requires
-valid-requires c κs = passed c.before.is-lcd.ensures c.if1.false
+valid-requires c κs = passed c.before.is_lcd.ensures c.if1.false
 
 returns-2 : tie.Need-returns-2
 unfolding check_clock

@@ -19,7 +19,7 @@ returns-2 c =
     let at-if1 = at-checked.before in
     simp (passed at-if1.before.in_range.ensures at-if1.if1.false, sym at-checked.checked.ensures ∙ ap refused c.before.check.given.1)
 
-count-to-requires : tie.Need-count-to-requires
+count-to-requires : tie.Need-count_to-requires
 count-to-requires c κs =
     let at-checked = c.before.before in
     let at-if1 = at-checked.before in

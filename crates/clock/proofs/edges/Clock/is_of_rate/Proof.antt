@@ -17,7 +17,7 @@ returns c =
     let start = c.before.before.before.before.before.before.before in
     refutes (of_rate_small start.args.self start.args.rate (lcd_bounds _ start.requires)) (not-true _ c.if1.true)
 
-product-is-requires : tie.Need-product-is-requires
+product-is-requires : tie.Need-product_is-requires
 product-is-requires c κs =
     let start = c.before.before.before.before.before.before.before in
     let a = start.args in

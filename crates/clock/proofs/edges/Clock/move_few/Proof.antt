@@ -15,7 +15,7 @@ use Rattle.clock.proofs.Rates.{lcd_bounds}
 use Rattle.clock.proofs.edges.Clock.move_few.Statement.{statement}
 use Rattle.clock.proofs.edges.Clock.move_few.Tie as tie
 
-mul-parts : tie.Need-overflow-mul-parts
+mul-parts : tie.Need-overflow_mul-parts
 mul-parts c =
     let start = c.before.before.before in
     let a = start.args in
@@ -24,7 +24,7 @@ mul-parts c =
     let period = of_rate_period a.self a.rate b v.of_rate in
     omega (arith, b.high, parts_lt a.self.fraction a.edges a.self.remainder a.rate.numerator v.fraction_lt period.1.0 start.requires.1.1)
 
-add_parts : tie.Need-overflow-add-parts
+add_parts : tie.Need-overflow_add-parts
 add_parts c =
     let start = c.before.before.before.before in
     let a = start.args in
@@ -33,7 +33,7 @@ add_parts c =
     let period = of_rate_period a.self a.rate b v.of_rate in
     omega (arith, b.high, parts_lt a.self.fraction a.edges a.self.remainder a.rate.numerator v.fraction_lt period.1.0 start.requires.1.1)
 
-rem-rest : tie.Need-nonzero-rem-rest
+rem-rest : tie.Need-nonzero_rem-rest
 rem-rest c =
     let start = c.before.before.before.before.before in
     omega (arith, (lcd_bounds start.args.rate start.requires.0).low)

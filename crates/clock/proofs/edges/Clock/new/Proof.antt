@@ -14,7 +14,7 @@ unfolding new_clock
 returns-2 c = simp (passed c.before.before.before.in_range.ensures c.before.before.if1.false, failed c.before.is-lcd.ensures c.if2.true)
 
 start-requires : tie.Need-start-requires
-start-requires c κs = passed c.before.is-lcd.ensures c.if2.false
+start-requires c κs = passed c.before.is_lcd.ensures c.if2.false
 
 returns-3 : tie.Need-returns-3
 unfolding new_clock

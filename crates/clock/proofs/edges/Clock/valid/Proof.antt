@@ -19,8 +19,8 @@ returns : tie.Need-returns
 unfolding valid_clock
 returns c =
     let at-is-of-rate = c.before.before.before.before in
-    let e = failed {r = at-is-of-rate.is-of-rate.result && _ && c.before.in_range.result} refl c.if1.true in
-    rw (← at-is-of-rate.is-of-rate.ensures, ← c.before.in_range.ensures, e)
+    let e = failed {r = at-is-of-rate.is_of_rate.result && _ && c.before.in_range.result} refl c.if1.true in
+    rw (← at-is-of-rate.is_of_rate.ensures, ← c.before.in_range.ensures, e)
 
 position-of-requires : tie.Need-position-of-requires
 position-of-requires c κs =
@@ -43,7 +43,7 @@ returns-2 c =
     rw (← at-is-of-rate.is-of-rate.ensures, ← at-in-range.in_range.ensures, e)
     (sym (ordinal_above a.self.ordinal _ a.rate.denominator b.denominator_low (rw at-position-of.position-of.ensures at c.if2.true)))
 
-mul-result : tie.Need-overflow-mul-result
+mul-result : tie.Need-overflow_mul-result
 mul-result c =
     let at-if2 = c.before.before in
     let at-position-of = at-if2.before.before.before in

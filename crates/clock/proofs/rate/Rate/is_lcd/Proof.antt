@@ -7,7 +7,7 @@ use Rattle.clock.proofs.rate.Rate.is_lcd.Tie as tie
 
 returns : tie.Need-returns
 unfolding is_lcd
-returns c = rw (sym c.before.is-by-rows.ensures ∙ c.if1.true)
+returns c = rw (sym c.before.is_by_rows.ensures ∙ c.if1.true)
 
 returns-2 : tie.Need-returns-2
 unfolding is_lcd
