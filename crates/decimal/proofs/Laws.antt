@@ -52,11 +52,11 @@ grows (b ∷ l) n = go (is_digit b) (grows l (n * 10 + (b - 48)))
 module _ (s : List ℕ) (i b : ℕ) (d : Digit s i b) where
   pub digits_step : digits (drop i s) ≡ 1 + digits (drop (i + 1) s)
   unfolding digits
-  digits_step = rw (add-one i, drop-cons s i 0 d.within, d.is_digit)
+  digits_step = rw (add-one i, drop-cons s i 0 d.within, d.is_digit_lem)
 
   pub spelt_step : (n : ℕ) → spelt (drop i s) n ≡ spelt (drop (i + 1) s) (n * 10 + (b - 48))
   unfolding spelt
-  spelt_step n = rw (add-one i, drop-cons s i 0 d.within, d.is_digit, d.read)
+  spelt_step n = rw (add-one i, drop-cons s i 0 d.within, d.is_digit_lem, d.read)
 
   pub more : (n : ℕ) → n * 10 + (b - 48) ≤ spelt (drop i s) n
   more n = rw (spelt_step n) (grows (drop (i + 1) s) (n * 10 + (b - 48)))
