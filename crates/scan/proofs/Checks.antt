@@ -73,7 +73,7 @@ inversion_fits i h = let a = both _ _ h in record { lines_ok_lem = a.0; count_be
 
 fits_inversion : (i : Inversion) → InversionFits i → valid_inversion i ≡ true
 unfolding valid_inversion
-fits_inversion i v = simp v.lines_ok (go v.count_below)
+fits_inversion i v = simp v.lines_ok_lem (go v.count_below)
   where
     go : (i.lines ≡ 0) ⊎ (i.count < i.lines) → eqb i.lines 0 || ltb i.count i.lines ≡ true
     go (inl e) = simp (eq-eqb i.lines 0 e)

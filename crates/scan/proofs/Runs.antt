@@ -61,7 +61,7 @@ begun_valid s ram icons vs = let f = frame_of_fits s vs in record {
   step_below = pwm_pos (pwm_of s.gray_mode) (pwm_of_ok s.gray_mode);
   frc_below = rw (frc_count_taken s) (frc_count_pos (frc_count_of s.gray_mode) (frc_count_of_ok s.gray_mode));
   row_below = omega (arith, rows_low (frame_of s), f.duty_low);
-  inversion = record { lines_ok_lem = vs.lines_ok; count_below = count_zero s.inversion_lines };
+  inversion = record { lines_ok_lem = vs.lines_ok_lem; count_below = count_zero s.inversion_lines };
   clock_ok = refl;
 }
 

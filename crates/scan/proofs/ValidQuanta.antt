@@ -120,7 +120,7 @@ lines_count lines (suc k) count v = inr (go (eqb lines (suc k)) refl)
 inversion_after_fits : (i : Inversion) (lines : ℕ) (row_ended_lem frame_ended_lem : Bool) → InversionFits i → lines_ok lines ≡ true → InversionFits (inversion_after i lines row_ended_lem frame_ended_lem)
 unfolding inversion_after count_on lines_end
 inversion_after_fits i lines true ended v l = record { lines_ok_lem = l; count_below = lines_count i.lines lines i.count v.count_below }
-inversion_after_fits i lines false ended v l = record { lines_ok_lem = v.lines_ok; count_below = v.count_below }
+inversion_after_fits i lines false ended v l = record { lines_ok_lem = v.lines_ok_lem; count_below = v.count_below }
 
 -- the rate of rows in range
 pub rate_lcd : (s : Settings) → ValidSettings s → (f : Frame) → FrameFits f → is_lcd (rate_of s (rows_in f)) ≡ true
@@ -159,7 +159,7 @@ module _ (s : Settings) (vs : ValidSettings s) where
       pos = pwm_pos (pwm_of s.gray_mode) (pwm_of_ok s.gray_mode)
 
       inverts : (row_ended_lem frame_ended_lem : Bool) → InversionFits (inversion_after x.inversion s.inversion_lines row_ended_lem frame_ended_lem)
-      inverts row_ended_lem frame_ended_lem = inversion_after_fits x.inversion s.inversion_lines row_ended_lem frame_ended_lem v.inversion vs.lines_ok
+      inverts row_ended_lem frame_ended_lem = inversion_after_fits x.inversion s.inversion_lines row_ended_lem frame_ended_lem v.inversion vs.lines_ok_lem
 
       phase : 0 < frc_count_of s.gray_mode
       phase = frc_count_pos (frc_count_of s.gray_mode) (frc_count_of_ok s.gray_mode)
