@@ -65,3 +65,10 @@ holds h e = rw h e
 
 pub other : {a b r : Bool} → a ≡ false → r ≡ b → r ≡ (a || b)
 other h e = rw h e
+
+-- what a branch on a check says of the check's definition
+pub test_false : {r d : Bool} → r ≡ d → r ≡ false → d ≡ false
+test_false e h = sym e ∙ h
+
+pub test_true : {r d : Bool} → r ≡ d → r ≡ true → d ≡ true
+test_true e h = sym e ∙ h

@@ -33,7 +33,7 @@ positive (negsuc n) h = rw (le-ltb 2147483648 (suc n) (omega arith)) (refl, omeg
 -- the code holds the number as bits, and each time the number of the bits is the number again, since it fits
 module _ (z : ℤ) (fits : SFits w32 z) where
   pub back : to_z w64 (of_z w64 (to_z w32 (of_z w32 z))) ≡ z
-  back = ap (λ (x : ℤ). to_z w64 (of_z w64 x)) (to_z-of_z fits) ∙ to_z-of_z (sfits_widen tt fits)
+  back = ap (λ (x : ℤ). to_z w64 (of_z w64 x)) (to_z-of_z {w = w32} {z = z} fits) ∙ to_z-of_z {w = w64} {z = z} (sfits_widen {w = w32} {w' = w64} {z = z} (tt {0}) fits)
 
   pub raised_is : z +ℤ pos 2147483648 ≡ pos (temperature_word z)
   raised_is = (positive z fits.sfits).0

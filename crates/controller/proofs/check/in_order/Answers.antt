@@ -1,0 +1,13 @@
+use Rattle.controller.specs.Check.{in_order}
+use Rattle.controller.proofs.check.in_order.Goals as goal
+
+pub returns : goal.returns
+unfolding in_order
+returns c =
+    simp (
+      c.first-5.ensures,
+      c.first-4.ensures,
+      c.first-3.ensures,
+      c.first-2.ensures,
+      c.first.ensures,
+    )

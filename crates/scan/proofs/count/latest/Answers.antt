@@ -1,0 +1,15 @@
+use Rattle.std.proofs.Common.{ap}
+use Rattle.checks.proofs.Tests.{test_false}
+use Rattle.scan.specs.declared.count.Counted.{Counted}
+use Rattle.scan.proofs.Answers.{count_passed}
+use Rattle.scan.proofs.Checks.{timed_check}
+use Rattle.scan.proofs.Due.{counted_none}
+use Rattle.scan.proofs.count.latest.Goals as goal
+
+pub returns-then-not-is_due : goal.returns-then-not-is_due
+returns-then-not-is_due c = counted_none _ _ _ (test_false c.is_due.ensures c.if-not-is_due.true)
+
+pub returns : goal.returns
+returns c =
+    let g = c.requires in
+    ap (λ (r : Counted). r.scan) (count_passed _ _ _ c.count_to-counted.result c.count_to-counted.ensures (timed_check _ _ _ (record { in_range_lem = g.0; settings_ok_lem = g.1.0; scan_passed = g.1.1 })))

@@ -1,0 +1,10 @@
+use Rattle.scan.specs.Drive.{drive_of}
+use Rattle.scan.proofs.Latches.{phase_lt}
+use Rattle.scan.proofs.drive.drive_of.Goals as goal
+
+pub shown-words-requires-clause-frc_bound : goal.shown-words-requires-clause-frc_bound
+shown-words-requires-clause-frc_bound c = (phase_lt c.args.scan c.requires.scan_value, c.requires.1)
+
+pub returns : goal.returns
+unfolding drive_of
+returns c = simp (c.common_of.ensures, c.shown-words.ensures)

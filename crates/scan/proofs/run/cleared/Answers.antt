@@ -1,0 +1,13 @@
+use Rattle.std.proofs.Common.{eq-eqb, ne_eqb}
+use Rattle.scan.specs.Run.{cleared}
+use Rattle.scan.specs.State.{with_inversion}
+use Rattle.scan.proofs.run.cleared.Goals as goal
+
+pub returns-then-settings-ne0 : goal.returns-then-settings-ne0
+unfolding cleared with_inversion
+returns-then-settings-ne0 c = simp (ne_eqb _ _ c.if-settings-ne0.true)
+
+pub returns : goal.returns
+unfolding cleared with_inversion
+returns c =
+    simp (eq-eqb _ _ c.if-settings-ne0.false)

@@ -1,0 +1,7 @@
+use Rattle.scan.specs.Run.{taken}
+use Rattle.scan.proofs.run.taken.Goals as goal
+
+pub returns : goal.returns
+unfolding taken
+returns c =
+    simp (c.frame_of-frame.ensures, c.rate_of-rate.ensures, c.pwm_of.ensures)

@@ -1,0 +1,18 @@
+use Prim.Native.Nat.{◌-◌, ◌≤◌}
+use mathlib.Core.Path.{◌≡◌}
+use lib.ListN.{length, drop}
+use Rattle.session.specs.Text.{lines_of}
+use Rattle.session.specs.Session.{run_from}
+use Rattle.session.specs.Closed.{machine_of, laid_from}
+use Rattle.session.proofs.session.lines.Given as goal
+
+abbrev pub invariant-loop-place : goal.invariant-loop-place
+invariant-loop-place l =
+    (l.line ≤ l.place)
+    × ((length l.ram ≡ length l.initial.ram)
+    × ((length l.icons ≡ length l.initial.icons)
+    × ((length l.out ≡ length l.initial.out)
+    × (laid_from (l.out, l.at) (run_from l.line (lines_of (drop l.place l.text)) (machine_of l.state l.ram l.icons)) ≡ whole l.text l.initial.ram l.initial.icons l.initial.out l.start))))
+
+abbrev pub decreases-loop-place : goal.decreases-loop-place
+decreases-loop-place l = length l.text - l.place
