@@ -2,4 +2,3 @@
 // down by the number of its first refusal (specs/Checks.antt), the laws of such chains
 // (proofs/Chains.antt) and of tests on numbers and flags (proofs/Tests.antt).
 #![tactic(auto)]
-

@@ -12,7 +12,7 @@ loop-i-preserved c =
     let bytes = c.args.bytes.now in
     let i = c.loop-i.i in
     let p : List ℕ × ℕ = (c.loop-i.out, c.loop-i.next) in
-    (ap (λ (q : List ℕ × ℕ). put q (drop (i + 1) bytes)) c.put_byte-next.ensures ∙ sym (put_next p bytes i (search rules)) ∙ c.loop-i.invariant.0, c.put_byte-next.auto.0 ∙ c.loop-i.invariant.1)
+    (ap (λ (q : List ℕ × ℕ). put q (drop (i + 1) bytes)) c.put_byte-next.ensures ∙ sym (put_next p bytes i (search rules)) ∙ c.loop-i.invariant.0, c.put_byte-next.auto.out ∙ c.loop-i.invariant.1)
 
 pub returns : goal.returns
 returns c =

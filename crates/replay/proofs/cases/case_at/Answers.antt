@@ -22,11 +22,11 @@ returns-then-w-n c =
 pub returns-in_default-line : goal.returns-in_default-line
 returns-in_default-line c =
     let a = c.args in
-    ap (λ (l : Line). (case_of c.in-Number.value l, c.read_line-line.new.1.1.0 ++ drop c.length_of-n.result a.w.now)) (sym c.in_default-line.is)
+    ap (λ (l : Line). (case_of c.in-Number.value l, c.read_line-line.new.out ++ drop c.length_of-n.result a.w.now)) (sym c.in_default-line.is)
     ∙ numbers a.text.now a.at a.w.now c.in-Number.value c.in-Number.next _ (sym c.field-read.ensures ∙ c.in-Number.is) c.length_of-n.ensures (search rules) (search rules) _ _ c.read_line-line.ensures
 
 pub returns : goal.returns
 returns c =
     let a = c.args in
-    ap (λ (l : Line). (case_of c.in-Number.value l, c.read_line-line.new.1.1.0 ++ drop c.length_of-n.result a.w.now)) (sym c.in-Ended.is)
+    ap (λ (l : Line). (case_of c.in-Number.value l, c.read_line-line.new.out ++ drop c.length_of-n.result a.w.now)) (sym c.in-Ended.is)
     ∙ numbers a.text.now a.at a.w.now c.in-Number.value c.in-Number.next _ (sym c.field-read.ensures ∙ c.in-Number.is) c.length_of-n.ensures (search rules) (search rules) _ _ c.read_line-line.ensures

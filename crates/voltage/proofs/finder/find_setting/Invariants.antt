@@ -1,10 +1,12 @@
-use Prim.Native.Nat.{ℕ, ◌-◌, ◌*◌, ◌/◌, ◌%◌, ◌<◌, ◌≤◌}
+use Prim.Native.Nat.{ℕ, ◌+◌, ◌-◌, ◌*◌, ◌/◌, ◌%◌, ◌<◌, ◌≤◌}
 use mathlib.Core.Bool.{false}
 use mathlib.Core.Path.{◌≡◌}
 use Rattle.voltage.specs.Voltage.{gain}
 use Rattle.voltage.specs.Finder.{in_band}
+use Rattle.voltage.proofs.Numbers.{computed}
 use Rattle.voltage.proofs.finder.find_setting.Given as goal
 
+-- none of the pairs that were passed fits
 abbrev pub invariant-loop-pair : goal.invariant-loop-pair
 invariant-loop-pair l =
     (l.pair ≤ 512)
