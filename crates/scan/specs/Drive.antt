@@ -46,7 +46,7 @@ common_of x =
 
 -- no common selected and no segment active
 abbrev pub unselected : LcdVoltages → (grounded : Bool) → LcdDrive
-unselected v ground = record { common = Common.None; segments = 0 ∷ 0 ∷ []; inverted = false; voltages = v; grounded = ground }
+unselected v at_ground = record { common = Common.None; segments = 0 ∷ 0 ∷ []; inverted = false; voltages = v; grounded = at_ground }
 
 unfoldable pub undriven : Conditions → LcdVoltages → LcdDrive
 undriven c v = unselected v (grounded c)

@@ -8,7 +8,7 @@ returns-then-steady c = steady_same _ _ _ _ _ _ _ _ (sym c.steady.ensures ∙ c.
 
 pub retained-next-requires-clause-frc_bound : goal.retained-next-requires-clause-frc_bound
 retained-next-requires-clause-frc_bound c =
-    let g = c.requires in phase_lt _ g.1.1.0
+    let g = c.requires in phase_lt _ g.scan_value
 
 pub returns-then-settled : goal.returns-then-settled
 returns-then-settled c =
@@ -16,4 +16,4 @@ returns-then-settled c =
 
 pub updated-requires-clause-scan_value : goal.updated-requires-clause-scan_value
 updated-requires-clause-scan_value c =
-    let g = c.requires in simp c.retained-next.ensures (retained_check _ _ _ _ _ ∙ g.1.1.0)
+    let g = c.requires in simp c.retained-next.ensures (retained_check _ _ _ _ _ ∙ g.scan_value)

@@ -12,4 +12,4 @@ returns-then-not-is_due c = counted_none _ _ _ (test_false c.is_due.ensures c.if
 pub returns : goal.returns
 returns c =
     let g = c.requires in
-    ap (λ (r : Counted). r.scan) (count_passed _ _ _ c.count_to-counted.result c.count_to-counted.ensures (timed_check _ _ _ (record { in_range_lem = g.0; settings_ok_lem = g.1.0; scan_passed = g.1.1 })))
+    ap (λ (r : Counted). r.scan) (count_passed _ _ _ c.count_to-counted.result c.count_to-counted.ensures (timed_check _ _ _ (record { in_range_lem = g.value; settings_ok_lem = g.settings_value; scan_passed = g.scan_value })))

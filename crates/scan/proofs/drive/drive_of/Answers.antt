@@ -3,7 +3,7 @@ use Rattle.scan.proofs.Latches.{phase_lt}
 use Rattle.scan.proofs.drive.drive_of.Goals as goal
 
 pub shown-words-requires-clause-frc_bound : goal.shown-words-requires-clause-frc_bound
-shown-words-requires-clause-frc_bound c = (phase_lt c.args.scan c.requires.scan_value, c.requires.1)
+shown-words-requires-clause-frc_bound c = phase_lt c.args.scan c.requires.scan_value
 
 pub returns : goal.returns
 unfolding drive_of

@@ -10,7 +10,7 @@ returns-then-not-driven c = simp (test_false c.driven.ensures c.if-not-driven.tr
 pub drive_of-requires-clause-scan_value : goal.drive_of-requires-clause-scan_value
 drive_of-requires-clause-scan_value c =
     let g = c.requires in
-    (rw c.latest-latest.ensures (counted_passes _ _ _ g.0 g.1.0 g.1.1.0), g.1.1.1)
+    rw c.latest-latest.ensures (counted_passes _ _ _ g.moment_value g.settings_value g.scan_value)
 
 pub returns : goal.returns
 unfolding drive_at frame_at

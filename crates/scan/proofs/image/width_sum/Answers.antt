@@ -1,4 +1,4 @@
-use Rattle.std.proofs.Common.{◌-◌, ◌≤◌, refl, arith}
+use Rattle.std.proofs.Common.{◌≤◌, refl, arith}
 use Rattle.scan.specs.Image.{widths}
 use Rattle.scan.proofs.Images.{frc_bounds, widths_fit, widths_more}
 use Rattle.scan.proofs.image.width_sum.Goals as goal

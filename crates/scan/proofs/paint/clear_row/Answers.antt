@@ -1,4 +1,4 @@
-use Rattle.std.proofs.Common.{◌-◌, refl, arith, length-set}
+use Rattle.std.proofs.Common.{refl, arith, length-set}
 use Rattle.scan.specs.Paint.{dark}
 use Rattle.scan.specs.Image.{up_to}
 use Rattle.scan.proofs.Rows.{up_to_more}

@@ -1,4 +1,4 @@
-use Rattle.std.proofs.Common.{◌-◌, refl, arith}
+use Rattle.std.proofs.Common.{refl, arith}
 use Rattle.scan.specs.Image.{rows_up_to}
 use Rattle.scan.proofs.Images.{length_row}
 use Rattle.scan.proofs.Rows.{rows_more}

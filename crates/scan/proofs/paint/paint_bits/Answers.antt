@@ -1,4 +1,4 @@
-use Rattle.std.proofs.Common.{◌-◌, refl, arith, length-set}
+use Rattle.std.proofs.Common.{refl, arith, length-set}
 use Rattle.scan.specs.Paint.{row_level}
 use Rattle.scan.specs.Image.{up_to}
 use Rattle.scan.proofs.Rows.{up_to_more}
@@ -12,5 +12,5 @@ pub loop-x-preserved : goal.loop-x-preserved
 loop-x-preserved c =
     let a = c.args in
     let l = c.loop-x in
-    let more = up_to_more (row_level a.t3 a.bits.now a.reversed) l.x a.row.now (omega arith) in
+    let more = up_to_more (row_level a.levels a.bits.now a.reversed) l.x a.row.now (omega arith) in
     (omega arith, rw (l.invariant.1, c.planes-at.ensures.value) more, simp length-set l.invariant.2)

@@ -16,7 +16,7 @@ returns-then-lit-line c =
     let line = c.line_of-line.ensures.value in
     let part : shown.result / 8 * 256 + 256 - shown.result / 8 * 256 ≡ 256 = omega arith in
     c.paint_page.ensures
-    ∙ rw (part, shown.ensures.0, line) (row_by a.settings a.lit a.ram.now a.y (rw line at c.if-lit-line.true))
+    ∙ rw (part, shown.ensures.value, line) (row_by a.settings a.lit a.ram.now a.y (rw line at c.if-lit-line.true))
 
 pub returns : goal.returns
 returns c =

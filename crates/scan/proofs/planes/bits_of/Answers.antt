@@ -1,4 +1,4 @@
-use Rattle.std.proofs.Common.{ℕ, ◌-◌, get_or, refl, ◌∙◌, arith}
+use Rattle.std.proofs.Common.{ℕ, get_or, refl, ◌∙◌, arith}
 use Rattle.scan.specs.Planes.{row_bits}
 use Rattle.scan.specs.Image.{up_to}
 use Rattle.scan.specs.Shade.{bit_of}

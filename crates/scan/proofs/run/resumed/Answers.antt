@@ -4,7 +4,7 @@ use Rattle.scan.proofs.run.resumed.Goals as goal
 
 pub clocked-requires-clause-scan_value : goal.clocked-requires-clause-scan_value
 clocked-requires-clause-scan_value c =
-    let g = c.requires in cleared_passes _ _ g.1.1 c.cleared.ensures
+    let g = c.requires in cleared_passes _ _ g.scan_value c.cleared.ensures
 
 pub returns-then-runs : goal.returns-then-runs
 unfolding resumed

@@ -4,7 +4,7 @@ use Rattle.scan.proofs.run.updated.Goals as goal
 
 pub clocked-requires-clause-scan_value : goal.clocked-requires-clause-scan_value
 clocked-requires-clause-scan_value c =
-    let g = c.requires in begun_passes c.args.scan c.args.settings _ _ g.1.0 c.begun.ensures
+    let g = c.requires in begun_passes c.args.scan c.args.settings _ _ g.settings_value c.begun.ensures
 
 pub returns-in-Begins : goal.returns-in-Begins
 unfolding updated

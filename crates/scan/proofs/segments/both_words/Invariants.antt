@@ -5,13 +5,13 @@ use Rattle.scan.proofs.segments.both_words.Given as goal
 
 abbrev pub invariant-loop-left : goal.invariant-loop-left
 invariant-loop-left l =
-    let h = in_high l.bits l.reversed in
-    let l = in_low l.bits l.reversed in
+    let in_h = in_high l.bits l.reversed in
+    let in_l = in_low l.bits l.reversed in
     (l.left ≤ 8)
-    × ((l.high ≡ word h (8 * l.left) (64 - 8 * l.left))
-    × ((l.low ≡ word l (8 * l.left) (64 - 8 * l.left))
-    × ((l.high2 ≡ word h (8 * l.left + 64) (64 - 8 * l.left))
-    × (l.low2 ≡ word l (8 * l.left + 64) (64 - 8 * l.left)))))
+    × ((l.high ≡ word in_h (8 * l.left) (64 - 8 * l.left))
+    × ((l.low ≡ word in_l (8 * l.left) (64 - 8 * l.left))
+    × ((l.high2 ≡ word in_h (8 * l.left + 64) (64 - 8 * l.left))
+    × (l.low2 ≡ word in_l (8 * l.left + 64) (64 - 8 * l.left)))))
 
 abbrev pub decreases-loop-left : goal.decreases-loop-left
 decreases-loop-left l = l.left

@@ -7,4 +7,4 @@ pub both_words-requires : goal.both_words-requires
 both_words-requires c =
     let a = c.args in
     let p = c.requires in
-    subst (λ (l : List ℕ). AreBits l) (sym c.row_bits.ensures) (bits_at_lem a.row a.ram.now a.icons.now p.0 p.1.0 p.1.1)
+    subst (λ (l : List ℕ). AreBits l) (sym c.row_bits.ensures) (bits_at_lem a.row a.ram.now a.icons.now p.row_bound p.ram_len p.icons_len)

@@ -4,7 +4,7 @@ use Rattle.scan.proofs.Stretches.{left_all, left_few, left_stopped, left_refused
 use Rattle.scan.proofs.stretch.in_pieces.Goals as goal
 
 pub loop-running-init : goal.loop-running-init
-loop-running-init c = left_all _ _ _ (rw c.rebuilt-from.ensures c.requires)
+loop-running-init c = left_all _ _ _ (rw c.rebuilt-from.ensures (c.requires.value, (c.requires.settings_value, c.requires.scan_value)))
 
 pub counted_as-requires : goal.counted_as-requires
 counted_as-requires c =
@@ -32,15 +32,15 @@ returns-then-count-eq0 c =
 
 pub stretch-run-requires-clause-scan_value : goal.stretch-run-requires-clause-scan_value
 stretch-run-requires-clause-scan_value c =
-    left_asked c.loop-running.invariant c.in-Running.is c.stretch_limit-limit.ensures _ c.passed_to-passed.ensures c.in-Edges.is c.if-count-eq0.false
+    (left_asked c.loop-running.invariant c.in-Running.is c.stretch_limit-limit.ensures _ c.passed_to-passed.ensures c.in-Edges.is c.if-count-eq0.false).0
 
 pub stretch-run-requires-clause-quanta_bound : goal.stretch-run-requires-clause-quanta_bound
 stretch-run-requires-clause-quanta_bound c =
-    left_asked c.loop-running.invariant c.in-Running.is c.stretch_limit-limit.ensures _ c.passed_to-passed.ensures c.in-Edges.is c.if-count-eq0.false
+    (left_asked c.loop-running.invariant c.in-Running.is c.stretch_limit-limit.ensures _ c.passed_to-passed.ensures c.in-Edges.is c.if-count-eq0.false).1.1.0
 
 pub stretch-run-requires-clause-at_value : goal.stretch-run-requires-clause-at_value
 stretch-run-requires-clause-at_value c =
-    left_asked c.loop-running.invariant c.in-Running.is c.stretch_limit-limit.ensures _ c.passed_to-passed.ensures c.in-Edges.is c.if-count-eq0.false
+    (left_asked c.loop-running.invariant c.in-Running.is c.stretch_limit-limit.ensures _ c.passed_to-passed.ensures c.in-Edges.is c.if-count-eq0.false).1.1.1
 
 pub overflow_add-before : goal.overflow_add-before
 overflow_add-before c =

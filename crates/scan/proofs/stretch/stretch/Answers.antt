@@ -5,7 +5,7 @@ use Rattle.scan.proofs.stretch.stretch.Goals as goal
 
 pub next_clock-requires-clause-value : goal.next_clock-requires-clause-value
 next_clock-requires-clause-value c =
-    let g = c.requires in ap is_lcd c.rate_of-new.ensures ∙ counted_lcd _ _ _ (g.0, (g.1.0, g.1.1.0)) _ c.by_pieces-run.ensures.counters
+    let g = c.requires in ap is_lcd c.rate_of-new.ensures ∙ counted_lcd _ _ _ (g.scan_value, (g.settings_value, g.quanta_bound)) _ c.by_pieces-run.ensures.counters
 
 pub returns : goal.returns
 returns c =

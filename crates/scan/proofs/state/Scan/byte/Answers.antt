@@ -23,8 +23,7 @@ latest-counted-requires-clause-scan_value c =
 
 pub altered-scan-requires-clause-moment_value : goal.altered-scan-requires-clause-moment_value
 altered-scan-requires-clause-moment_value c =
-    let k = called _ _ _ _ _ (passes (simp (c.valid-2.ensures, c.valid.ensures) at c.check_lent-check.ensures) c.in-Passed.is) in
-    let both_ok = both _ _ k.settings_ok_lem in k.in_range_lem
+    let k = called _ _ _ _ _ (passes (simp (c.valid-2.ensures, c.valid.ensures) at c.check_lent-check.ensures) c.in-Passed.is) in k.in_range_lem
 
 pub altered-scan-requires-clause-after_value : goal.altered-scan-requires-clause-after_value
 altered-scan-requires-clause-after_value c =
@@ -38,13 +37,11 @@ altered-scan-requires-clause-scan_value c =
 
 pub altered-scan-requires-clause-ram_len : goal.altered-scan-requires-clause-ram_len
 altered-scan-requires-clause-ram_len c =
-    let k = called _ _ _ _ _ (passes (simp (c.valid-2.ensures, c.valid.ensures) at c.check_lent-check.ensures) c.in-Passed.is) in
-    let both_ok = both _ _ k.settings_ok_lem in k.memory.ram_length
+    let k = called _ _ _ _ _ (passes (simp (c.valid-2.ensures, c.valid.ensures) at c.check_lent-check.ensures) c.in-Passed.is) in k.memory.ram_length
 
 pub altered-scan-requires-clause-icons_len : goal.altered-scan-requires-clause-icons_len
 altered-scan-requires-clause-icons_len c =
-    let k = called _ _ _ _ _ (passes (simp (c.valid-2.ensures, c.valid.ensures) at c.check_lent-check.ensures) c.in-Passed.is) in
-    let both_ok = both _ _ k.settings_ok_lem in k.memory.icons_length
+    let k = called _ _ _ _ _ (passes (simp (c.valid-2.ensures, c.valid.ensures) at c.check_lent-check.ensures) c.in-Passed.is) in k.memory.icons_length
 
 pub returns : goal.returns
 unfolding byte_scan

@@ -11,15 +11,15 @@ returns-in_default c =
 
 pub in_pieces-requires-clause-value : goal.in_pieces-requires-clause-value
 in_pieces-requires-clause-value c =
-    but_clock_rows _ _ _ (passes (simp c.valid.ensures at c.check_but_clock-check.ensures) c.in-Passed.is)
+    (but_clock_rows _ _ _ (passes (simp c.valid.ensures at c.check_but_clock-check.ensures) c.in-Passed.is)).0
 
 pub in_pieces-requires-clause-settings_value : goal.in_pieces-requires-clause-settings_value
 in_pieces-requires-clause-settings_value c =
-    but_clock_rows _ _ _ (passes (simp c.valid.ensures at c.check_but_clock-check.ensures) c.in-Passed.is)
+    (but_clock_rows _ _ _ (passes (simp c.valid.ensures at c.check_but_clock-check.ensures) c.in-Passed.is)).1.0
 
 pub in_pieces-requires-clause-scan_value : goal.in_pieces-requires-clause-scan_value
 in_pieces-requires-clause-scan_value c =
-    but_clock_rows _ _ _ (passes (simp c.valid.ensures at c.check_but_clock-check.ensures) c.in-Passed.is)
+    (but_clock_rows _ _ _ (passes (simp c.valid.ensures at c.check_but_clock-check.ensures) c.in-Passed.is)).1.1
 
 pub returns : goal.returns
 returns c =

@@ -12,17 +12,17 @@ returns-then-not-checks_pass c =
 pub counted_fast-answer-requires-clause-value : goal.counted_fast-answer-requires-clause-value
 counted_fast-answer-requires-clause-value c =
     let checks = c.checks_pass.ensures in
-    fast_count_pre _ _ _ _ _ (test_true checks c.if-not-checks_pass.false)
+    (fast_count_pre c.args.self c.args.settings c.args.moment c.args.ram.now c.args.icons.now (test_true checks c.if-not-checks_pass.false)).0
 
 pub counted_fast-answer-requires-clause-settings_value : goal.counted_fast-answer-requires-clause-settings_value
 counted_fast-answer-requires-clause-settings_value c =
     let checks = c.checks_pass.ensures in
-    fast_count_pre _ _ _ _ _ (test_true checks c.if-not-checks_pass.false)
+    (fast_count_pre c.args.self c.args.settings c.args.moment c.args.ram.now c.args.icons.now (test_true checks c.if-not-checks_pass.false)).1.0
 
 pub counted_fast-answer-requires-clause-scan_value : goal.counted_fast-answer-requires-clause-scan_value
 counted_fast-answer-requires-clause-scan_value c =
     let checks = c.checks_pass.ensures in
-    fast_count_pre _ _ _ _ _ (test_true checks c.if-not-checks_pass.false)
+    (fast_count_pre c.args.self c.args.settings c.args.moment c.args.ram.now c.args.icons.now (test_true checks c.if-not-checks_pass.false)).1.1
 
 pub returns-then-not-answer-settled : goal.returns-then-not-answer-settled
 returns-then-not-answer-settled c =
