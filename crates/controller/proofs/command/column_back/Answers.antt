@@ -11,6 +11,9 @@ none-saved a h = λ i. record { page = a.page; column_byte = same-column i; save
     same-column : a.column_byte ≡ column_or a.saved_column a.column_byte
     same-column = simp h
 
+pub returns-in_default : goal.returns-in_default
+returns-in_default c = none-saved _ c.in_default.is
+
 pub returns : goal.returns
 unfolding column_or address_after
 returns c = simp c.in-Column.is

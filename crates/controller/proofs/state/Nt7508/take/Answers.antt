@@ -11,19 +11,13 @@ unfolding shift_in
 returns-in_default c =
     simp c.unstored.ensures (refused_answer c.check_group-check.ensures _ _ c.in_default.is)
 
-pub short-next-requires-clause-count_value : goal.short-next-requires-clause-count_value
-short-next-requires-clause-count_value c =
-    let checked = passes c.check_group-check.ensures c.in-Passed.is in (
-      second_fails c.registers_ok.ensures c.completes.ensures (group_registers _ _ _ _ _ _ checked) c.if-registers_ok-completes.false,
-      (grouped _ _ _ _ _ _ checked).group_ok_lem,
-    )
-
-pub short-next-requires-clause-count_value_2 : goal.short-next-requires-clause-count_value_2
-short-next-requires-clause-count_value_2 c =
-    let checked = passes c.check_group-check.ensures c.in-Passed.is in (
-      second_fails c.registers_ok.ensures c.completes.ensures (group_registers _ _ _ _ _ _ checked) c.if-registers_ok-completes.false,
-      (grouped _ _ _ _ _ _ checked).group_ok_lem,
-    )
+pub short-next-requires : goal.short-next-requires
+short-next-requires c =
+    let checked = passes c.check_group-check.ensures c.in-Passed.is in
+    record {
+      count_value = second_fails c.registers_ok.ensures c.completes.ensures (group_registers _ _ _ _ _ _ checked) c.if-registers_ok-completes.false;
+      count_value_2 = (grouped _ _ _ _ _ _ checked).group_ok_lem;
+    }
 
 pub returns : goal.returns
 returns c =
