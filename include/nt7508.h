@@ -1,6 +1,6 @@
 /* A proved model of the Novatek NT7508 display controller, for C99 and C++.
  *
- * `rt staticlib ffi` writes target/staticlib/libffi.a, which holds every function below and needs
+ * `oracle/library` writes target/staticlib/libffi.a, which holds every function below and needs
  * memcpy and memset alone (x86-64, System V). docs/RULES.md has the rules of the controller;
  * crates/ffi/src holds the functions, each with its contract.
  *

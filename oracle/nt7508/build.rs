@@ -1,4 +1,4 @@
-//! Links the proved library that `rt staticlib ffi` writes to target/staticlib,
+//! Links the proved library that `oracle/library` writes to target/staticlib,
 //! or the one in the folder that FFI_FOLDER names. `oracle/run` also sets
 //! FFI_SUM, its checksum, so that another library is linked anew, whatever the
 //! times of its file say.
@@ -16,6 +16,6 @@ fn main() {
         println!("cargo::rustc-link-search=native={folder}");
         println!("cargo::rustc-link-lib=static=ffi");
     } else {
-        println!("cargo::error={library} is not there: `rt staticlib ffi` writes it");
+        println!("cargo::error={library} is not there: `oracle/library` writes it");
     }
 }

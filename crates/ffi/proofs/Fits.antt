@@ -2,11 +2,11 @@
 use Prim.Native.Nat.{ℕ, suc, ◌^◌}
 use mathlib.Core.Bool.{Bool, true, false, cond, ◌&&◌}
 use mathlib.Core.List.{List, [], ◌∷◌, ◌++◌}
-use mathlib.Core.Path.{◌≡◌, refl, sym, ◌∙◌, ap, ap₂}
+use mathlib.Core.Path.{◌≡◌, refl, sym, ◌∙◌, ap}
 use lib.Dec.{ltb, eqb}
 use lib.ListN.{length, get_or, replicate}
-use Rattle.ffi.proofs.Orders.{Tests, every, chain, zeros, ones, others, chain_every, every_append, every_sorted}
-use Rattle.ffi.specs.StateWords.{scan_fits, display_fits, analog_fits, power_fits, line_fits, below, flags_fit, bytes_fit, wider_fit, holds_state}
+use Rattle.ffi.proofs.Orders.{Tests, every, zeros, ones, others, chain_every, every_append, every_sorted}
+use Rattle.ffi.specs.StateWords.{scan_fits, display_fits, analog_fits, power_fits, line_fits, flags_fit, bytes_fit, wider_fit, holds_state}
 
 -- the test of a word, with its kind: a yes or no, a byte, or wider
 abbrev test : (m : ℕ) → (k : ℕ) → (w : List ℕ) → ℕ × Bool

@@ -110,8 +110,7 @@ fn passed(answer: Passed, count: &mut u64, out: &mut [u64; 8]) -> u64
 }
 
 // Microseconds as a time.
-#[unsafe(no_mangle)]
-pub extern "C" fn nt7508_time_from_micros(us: u64, out: &mut [u64; 2])
+pub fn nt7508_time_from_micros(us: u64, out: &mut [u64; 2])
     ensures { out.new ≡ time_words (time_of (micros_raw us)) }
 {
     let time = Time::from_micros(us);
@@ -119,14 +118,7 @@ pub extern "C" fn nt7508_time_from_micros(us: u64, out: &mut [u64; 2])
 }
 
 // A clock of p / q edges a second that starts at a time.
-#[unsafe(no_mangle)]
-pub extern "C" fn nt7508_clock_new(
-    seconds: u64,
-    fraction: u64,
-    p: u64,
-    q: u64,
-    out: &mut [u64; 8],
-) -> u64
+pub fn nt7508_clock_new(seconds: u64, fraction: u64, p: u64, q: u64, out: &mut [u64; 8]) -> u64
     ensures answers { result ≡ status (new_clock (time seconds fraction) (rate p q)) }
     ensures leaves { out.new ≡ stored clock_words (new_clock (time seconds fraction) (rate p q)) out.old }
 {
@@ -142,8 +134,7 @@ pub extern "C" fn nt7508_clock_new(
 }
 
 // Whether a clock passes the checks of its rate.
-#[unsafe(no_mangle)]
-pub extern "C" fn nt7508_clock_check(clock: &[u64; 8], p: u64, q: u64) -> u64
+pub fn nt7508_clock_check(clock: &[u64; 8], p: u64, q: u64) -> u64
     ensures { result ≡ check_status (check_clock (clock_of clock.now) (rate p q)) }
 {
     let rate = Rate {
@@ -154,8 +145,7 @@ pub extern "C" fn nt7508_clock_check(clock: &[u64; 8], p: u64, q: u64) -> u64
 }
 
 // How many edges stand after the clock's last one and not later than a moment.
-#[unsafe(no_mangle)]
-pub extern "C" fn nt7508_clock_edges_to(
+pub fn nt7508_clock_edges_to(
     clock: &[u64; 8],
     p: u64,
     q: u64,
@@ -178,8 +168,7 @@ pub extern "C" fn nt7508_clock_edges_to(
 }
 
 // The clock moved forward by edges, in place.
-#[unsafe(no_mangle)]
-pub extern "C" fn nt7508_clock_moved(clock: &mut [u64; 8], p: u64, q: u64, edges: u64) -> u64
+pub fn nt7508_clock_moved(clock: &mut [u64; 8], p: u64, q: u64, edges: u64) -> u64
     ensures answers { result ≡ status (move_clock (clock_of clock.old) (rate p q) edges) }
     ensures leaves { clock.new ≡ stored clock_words (move_clock (clock_of clock.old) (rate p q) edges) clock.old }
 {
@@ -191,8 +180,7 @@ pub extern "C" fn nt7508_clock_moved(clock: &mut [u64; 8], p: u64, q: u64, edges
 }
 
 // The clock moved to its last edge not later than a moment, by limit edges at the most, in place.
-#[unsafe(no_mangle)]
-pub extern "C" fn nt7508_clock_passed_to(
+pub fn nt7508_clock_passed_to(
     clock: &mut [u64; 8],
     p: u64,
     q: u64,

@@ -132,8 +132,7 @@ fn put_updated(answer: Updated, words: &mut [u64], pieces: &mut u8) -> u64
 }
 
 // The state at power-on, into a block that holds anything.
-#[unsafe(no_mangle)]
-pub extern "C" fn nt7508_controller_new(state: &mut [u64]) -> u64
+pub fn nt7508_controller_new(state: &mut [u64]) -> u64
     ensures answers { result ≡ check_status (row 20 (eqb (length state.old) 75)) }
     ensures leaves { state.new ≡ unless_refused (row 20 (eqb (length state.old) 75)) (state_words power_on) state.old }
 {
@@ -145,8 +144,7 @@ pub extern "C" fn nt7508_controller_new(state: &mut [u64]) -> u64
 }
 
 // One rising edge of the serial clock: a group of one.
-#[unsafe(no_mangle)]
-pub extern "C" fn nt7508_controller_rising(
+pub fn nt7508_controller_rising(
     state: &mut [u64],
     bit: bool,
     seconds: u64,
@@ -165,8 +163,7 @@ pub extern "C" fn nt7508_controller_rising(
 }
 
 // A group of rising edges, the oldest the highest of `bits`.
-#[unsafe(no_mangle)]
-pub extern "C" fn nt7508_controller_shift_in(
+pub fn nt7508_controller_shift_in(
     state: &mut [u64],
     bits: u8,
     count: u8,
@@ -196,8 +193,7 @@ pub extern "C" fn nt7508_controller_shift_in(
     put_received(answer, state, event)
 }
 
-#[unsafe(no_mangle)]
-pub extern "C" fn nt7508_controller_select(state: &mut [u64], on: bool) -> u64
+pub fn nt7508_controller_select(state: &mut [u64], on: bool) -> u64
     ensures answers { result ≡ check_status (selected_on state.old on).0 }
     ensures leaves { state.new ≡ unless_refused (selected_on state.old on).0 (state_words (selected_on state.old on).1) state.old }
 {
@@ -209,8 +205,7 @@ pub extern "C" fn nt7508_controller_select(state: &mut [u64], on: bool) -> u64
 }
 
 // The data line: data, or commands.
-#[unsafe(no_mangle)]
-pub extern "C" fn nt7508_controller_command_data(state: &mut [u64], on: bool) -> u64
+pub fn nt7508_controller_command_data(state: &mut [u64], on: bool) -> u64
     ensures answers { result ≡ check_status (data_on state.old on).0 }
     ensures leaves { state.new ≡ unless_refused (data_on state.old on).0 (state_words (data_on state.old on).1) state.old }
 {
@@ -221,8 +216,7 @@ pub extern "C" fn nt7508_controller_command_data(state: &mut [u64], on: bool) ->
     put_changed(answer, state)
 }
 
-#[unsafe(no_mangle)]
-pub extern "C" fn nt7508_controller_set_supply(
+pub fn nt7508_controller_set_supply(
     state: &mut [u64],
     millivolts: u16,
     seconds: u64,
@@ -242,8 +236,7 @@ pub extern "C" fn nt7508_controller_set_supply(
     put_changed(answer, state)
 }
 
-#[unsafe(no_mangle)]
-pub extern "C" fn nt7508_controller_set_temperature(state: &mut [u64], millicelsius: i32) -> u64
+pub fn nt7508_controller_set_temperature(state: &mut [u64], millicelsius: i32) -> u64
     ensures answers { result ≡ check_status (temperature_on state.old millicelsius).0 }
     ensures leaves { state.new ≡ unless_refused (temperature_on state.old millicelsius).0 (state_words (temperature_on state.old millicelsius).1) state.old }
 {
@@ -255,12 +248,7 @@ pub extern "C" fn nt7508_controller_set_temperature(state: &mut [u64], millicels
 }
 
 // The loss of memory.
-#[unsafe(no_mangle)]
-pub extern "C" fn nt7508_controller_lose_volatile(
-    state: &mut [u64],
-    ram: &mut [u8],
-    icons: &mut [u8],
-) -> u64
+pub fn nt7508_controller_lose_volatile(state: &mut [u64], ram: &mut [u8], icons: &mut [u8]) -> u64
     ensures answers { result ≡ check_status (lost_on state.old ram.old icons.old).0 }
     ensures leaves { state.new ≡ unless_refused (lost_on state.old ram.old icons.old).0 (state_words (lost_on state.old ram.old icons.old).1.0) state.old }
     ensures ram { ram.new ≡ (lost_on state.old ram.old icons.old).1.1.0 }
@@ -274,12 +262,7 @@ pub extern "C" fn nt7508_controller_lose_volatile(
 }
 
 // The deadline call, which ends the wait at its exact time.
-#[unsafe(no_mangle)]
-pub extern "C" fn nt7508_controller_at_deadline(
-    state: &mut [u64],
-    seconds: u64,
-    fraction: u64,
-) -> u64
+pub fn nt7508_controller_at_deadline(state: &mut [u64], seconds: u64, fraction: u64) -> u64
     ensures answers { result ≡ check_status (met_on state.old seconds fraction).0 }
     ensures leaves { state.new ≡ unless_refused (met_on state.old seconds fraction).0 (state_words (met_on state.old seconds fraction).1) state.old }
 {
@@ -295,8 +278,7 @@ pub extern "C" fn nt7508_controller_at_deadline(
 }
 
 // The scan stays as counted to a moment, and how many pieces that took.
-#[unsafe(no_mangle)]
-pub extern "C" fn nt7508_controller_update(
+pub fn nt7508_controller_update(
     state: &mut [u64],
     seconds: u64,
     fraction: u64,
@@ -318,8 +300,7 @@ pub extern "C" fn nt7508_controller_update(
 }
 
 // A state that was saved elsewhere, with its RAM and icons, at a moment.
-#[unsafe(no_mangle)]
-pub extern "C" fn nt7508_controller_restore(
+pub fn nt7508_controller_restore(
     state: &mut [u64],
     seconds: u64,
     fraction: u64,

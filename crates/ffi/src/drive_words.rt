@@ -122,8 +122,7 @@ fn electrode_word(electrode: Electrode) -> u64
 }
 
 // The drive at a moment, and the frame of the scan shown (duty x PWM; 0 where undriven).
-#[unsafe(no_mangle)]
-pub extern "C" fn nt7508_scan_drive(
+pub fn nt7508_scan_drive(
     ram: &[u8],
     icons: &[u8],
     words: &[u64; 13],
@@ -172,16 +171,14 @@ pub extern "C" fn nt7508_scan_drive(
 }
 
 // The voltage of a common in a drive, in microvolts, or 2^32 for none.
-#[unsafe(no_mangle)]
-pub extern "C" fn nt7508_scan_common_microvolts(drive: &[u64; 12], common: u8) -> u64
+pub fn nt7508_scan_common_microvolts(drive: &[u64; 12], common: u8) -> u64
     ensures { result ≡ electrode_word (common_microvolts (drive_of drive.now) common) }
 {
     electrode_word(drive_of(drive).common_microvolts(common))
 }
 
 // The voltage of a segment in a drive, in microvolts, or 2^32 for none.
-#[unsafe(no_mangle)]
-pub extern "C" fn nt7508_scan_segment_microvolts(drive: &[u64; 12], segment: u8) -> u64
+pub fn nt7508_scan_segment_microvolts(drive: &[u64; 12], segment: u8) -> u64
     ensures { result ≡ electrode_word (segment_microvolts (drive_of drive.now) segment) }
 {
     electrode_word(drive_of(drive).segment_microvolts(segment))

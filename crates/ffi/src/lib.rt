@@ -1,7 +1,7 @@
 // The layers of the display controller for callers in other languages: numbers and arrays of words
-// in and out, one module for each layer. A call that is turned down answers the number that
-// document 01's table gives and changes no lent array; any other answers 0. Only a session goes on from
-// line to line, and leaves what the lines before a refused one did.
+// in and out, one module for each layer. `ffi_c` exports its public functions to them. A call that is
+// turned down answers the number that document 01's table gives and changes no lent array; any other
+// answers 0. Only a session goes on from line to line, and leaves what the lines before a refused one did.
 #![tactic(auto)]
 
 pub mod clock_words;

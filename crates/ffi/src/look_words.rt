@@ -107,8 +107,7 @@ fn checked(check: Check) -> u64
 }
 
 // The drive at a moment, and the frame length of the scan shown (duty x PWM; 0 where undriven).
-#[unsafe(no_mangle)]
-pub extern "C" fn nt7508_controller_drive(
+pub fn nt7508_controller_drive(
     state: &[u64],
     seconds: u64,
     fraction: u64,
@@ -132,13 +131,7 @@ pub extern "C" fn nt7508_controller_drive(
 }
 
 // The gray image.
-#[unsafe(no_mangle)]
-pub extern "C" fn nt7508_controller_render(
-    state: &[u64],
-    ram: &[u8],
-    icons: &[u8],
-    image: &mut [u8],
-) -> u64
+pub fn nt7508_controller_render(state: &[u64], ram: &[u8], icons: &[u8], image: &mut [u8]) -> u64
     ensures answers { result ≡ check_status (rendered_on state.now ram.now icons.now image.old).0 }
     ensures leaves { image.new ≡ (rendered_on state.now ram.now icons.now image.old).1 }
 {
@@ -149,8 +142,7 @@ pub extern "C" fn nt7508_controller_render(
 }
 
 // Target, pump and V0 to V4.
-#[unsafe(no_mangle)]
-pub extern "C" fn nt7508_controller_voltages(state: &[u64], out: &mut [u64; 7]) -> u64
+pub fn nt7508_controller_voltages(state: &[u64], out: &mut [u64; 7]) -> u64
     ensures answers { result ≡ status (voltages_on state.now) }
     ensures leaves { out.new ≡ stored voltage_words (voltages_on state.now) out.old }
 {
@@ -161,12 +153,7 @@ pub extern "C" fn nt7508_controller_voltages(state: &[u64], out: &mut [u64; 7]) 
 }
 
 // Edges of the serial clock until the byte completes, from the clock's level.
-#[unsafe(no_mangle)]
-pub extern "C" fn nt7508_controller_serial_effect_edges(
-    state: &[u64],
-    high: bool,
-    out: &mut u8,
-) -> u64
+pub fn nt7508_controller_serial_effect_edges(state: &[u64], high: bool, out: &mut u8) -> u64
     ensures answers { result ≡ status (edges_on state.now high) }
     ensures leaves { out.new ≡ stored (λ n. n) (edges_on state.now high) out.old }
 {
@@ -177,8 +164,7 @@ pub extern "C" fn nt7508_controller_serial_effect_edges(
 }
 
 // The end of the wait: whether there is one, its seconds and fraction.
-#[unsafe(no_mangle)]
-pub extern "C" fn nt7508_controller_deadline(state: &[u64], out: &mut [u64; 3]) -> u64
+pub fn nt7508_controller_deadline(state: &[u64], out: &mut [u64; 3]) -> u64
     ensures answers { result ≡ status (deadline_on state.now) }
     ensures leaves { out.new ≡ stored deadline_words (deadline_on state.now) out.old }
 {
@@ -189,13 +175,7 @@ pub extern "C" fn nt7508_controller_deadline(state: &[u64], out: &mut [u64; 3]) 
 }
 
 // Whether a pair of regulator and contrast has its target in the band, and one that has.
-#[unsafe(no_mangle)]
-pub extern "C" fn nt7508_controller_find_setting(
-    state: &[u64],
-    low: u32,
-    high: u32,
-    out: &mut [u64; 3],
-) -> u64
+pub fn nt7508_controller_find_setting(state: &[u64], low: u32, high: u32, out: &mut [u64; 3]) -> u64
     ensures { FoundOn state.now low high out.old result out.new }
 {
     if !holds(state) {

@@ -209,8 +209,7 @@ fn put_pieces(check: Check, pieces: u8, out: &mut u8)
 }
 
 // The scan counted to a moment, in place, and how many pieces that took.
-#[unsafe(no_mangle)]
-pub extern "C" fn nt7508_scan_count_to(
+pub fn nt7508_scan_count_to(
     settings: &[u8; 20],
     words: &mut [u64; 13],
     bytes: &mut [u8; 14],
@@ -239,8 +238,7 @@ pub extern "C" fn nt7508_scan_count_to(
 }
 
 // The scan as a data byte for a page, or a command, has to find it at a moment, in place.
-#[unsafe(no_mangle)]
-pub extern "C" fn nt7508_scan_before_byte(
+pub fn nt7508_scan_before_byte(
     ram: &[u8],
     icons: &[u8],
     settings: &[u8; 20],
@@ -269,8 +267,7 @@ pub extern "C" fn nt7508_scan_before_byte(
 }
 
 // The scan after a byte or a warm rise at a moment, in place, by whether it ran before and runs after.
-#[unsafe(no_mangle)]
-pub extern "C" fn nt7508_scan_after_byte(
+pub fn nt7508_scan_after_byte(
     ram: &[u8],
     icons: &[u8],
     settings: &[u8; 20],
@@ -300,8 +297,7 @@ pub extern "C" fn nt7508_scan_after_byte(
 }
 
 // The scan after a fall of the supply at a moment, in place.
-#[unsafe(no_mangle)]
-pub extern "C" fn nt7508_scan_fall(
+pub fn nt7508_scan_fall(
     settings: &[u8; 20],
     words: &mut [u64; 13],
     bytes: &mut [u8; 14],
@@ -321,8 +317,7 @@ pub extern "C" fn nt7508_scan_fall(
 }
 
 // The gray image, where the glass is driven or not.
-#[unsafe(no_mangle)]
-pub extern "C" fn nt7508_scan_render(
+pub fn nt7508_scan_render(
     ram: &[u8],
     icons: &[u8],
     image: &mut [u8],

@@ -41,8 +41,7 @@ fn put_end(written: usize, end: End, ended: &mut [u64; 2]) -> u64
 
 // Runs a text from power-on on lent memory and prints its listing into lent bytes. The block, which
 // may hold anything, RAM and icons get what the session left, also where a line is refused.
-#[unsafe(no_mangle)]
-pub extern "C" fn nt7508_session(
+pub fn nt7508_session(
     text: &[u8],
     state: &mut [u64],
     ram: &mut [u8],

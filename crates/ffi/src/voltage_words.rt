@@ -98,16 +98,14 @@ fn put_found(found: Found, out: &mut [u64; 3]) -> u64
 }
 
 // Whether every setting is in range.
-#[unsafe(no_mangle)]
-pub extern "C" fn nt7508_settings_valid(settings: &[u8; 8]) -> bool
+pub fn nt7508_settings_valid(settings: &[u8; 8]) -> bool
     ensures { result ≡ valid_settings (settings_of settings.now) }
 {
     settings_of(settings).valid()
 }
 
 // Target, pump and V0 to V4.
-#[unsafe(no_mangle)]
-pub extern "C" fn nt7508_voltages(
+pub fn nt7508_voltages(
     settings: &[u8; 8],
     millivolts: u16,
     temperature: i32,
@@ -128,8 +126,7 @@ pub extern "C" fn nt7508_voltages(
 }
 
 // Whether a pair of regulator and contrast has its target in the band, and one that has.
-#[unsafe(no_mangle)]
-pub extern "C" fn nt7508_find_setting(
+pub fn nt7508_find_setting(
     low: u32,
     high: u32,
     settings: &[u8; 8],

@@ -1,7 +1,7 @@
 //! A proved model of the Novatek NT7508 display controller, for Rust.
 //!
 //! [`Nt7508`] is the controller with its memory, [`run`] the session program;
-//! both go through the proved library `ffi` (`rt staticlib ffi`), whose functions
+//! both go through the proved library `ffi` (`oracle/library`), whose functions
 //! over words are in [`words`]. Types and methods have the names of the original
 //! Rust (lumirth/hachistep). No call panics, allocates or keeps a reference.
 //!

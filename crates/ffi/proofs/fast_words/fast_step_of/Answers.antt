@@ -8,4 +8,4 @@ pub returns-clause-tells : goal.returns-clause-tells
 returns-clause-tells c =
     let a = c.args in
     let is = made a.w.now c.scan_in-scan.ensures c.display_in-display.ensures c.analog_in-analog.ensures c.power_in-power.ensures c.address_in-address.ensures c.serial_in-serial.ensures in
-    let step = c.fast_byte.ensures in step.0 ∙ ap (λ (x : Nt7508). fast_step x a.byte a.moment a.ram.now a.icons.now) is
+    c.fast_byte.ensures.tells ∙ ap (λ (x : Nt7508). fast_step x a.byte a.moment a.ram.now a.icons.now) is

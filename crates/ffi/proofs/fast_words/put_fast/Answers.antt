@@ -5,10 +5,8 @@ use Rattle.ffi.proofs.fast_words.put_fast.Goals as goal
 pub returns-clause-leaves : goal.returns-clause-leaves
 unfolding fast_put
 returns-clause-leaves c =
-    let step = c.args.step in (
-      c.put_line.ensures
-          ∙ ap (line_put step.address) (c.put_counters.ensures
-          ∙ ap (counters_put step.scan) (c.put_latch.ensures
-          ∙ ap (latch_put step.scan) c.put_clock.ensures)),
-      c.event_words.ensures,
-    )
+    let step = c.args.step in
+    c.put_line.ensures
+    ∙ ap (line_put step.address) (c.put_counters.ensures
+    ∙ ap (counters_put step.scan) (c.put_latch.ensures
+    ∙ ap (latch_put step.scan) c.put_clock.ensures))

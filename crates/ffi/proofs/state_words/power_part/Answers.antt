@@ -1,10 +1,11 @@
 use mir.Facts.{to_z-of_z}
 use mir.Syntax.{w32}
+use borrow.Author.Rules.{rules}
 use Rattle.ffi.specs.StateWords.{power_part}
 use Rattle.ffi.proofs.state_words.power_part.Goals as goal
 
 pub returns : goal.returns
 unfolding power_part
 returns c =
-    let back = to_z-of_z {w = w32} {z = c.args.power.temperature_millicelsius} (record { sfits = c.struct_told-1.given.1.1.1.1.1.0.1 }) in
+    let back = to_z-of_z {w = w32} {z = c.args.power.temperature_millicelsius} (search rules) in
     simp (c.power_part_with.ensures, c.ready_words.ensures, c.temperature_word-temperature.ensures, back)
