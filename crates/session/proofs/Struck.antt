@@ -29,7 +29,6 @@ use Rattle.strike.specs.Strike.{compared, refusal, time_of}
 use Rattle.strike.proofs.Struck.{Beside, at_start, step_call, step_gone, same_call, deadline_any, deadlines_same, full_wait, full_state, full_lengths, waits_same, memory_same}
 use Rattle.session.specs.declared.line.Action.{Action}
 use Rattle.session.specs.declared.line.Line.{Line}
-use Rattle.session.specs.Text.{opens}
 use Rattle.session.specs.Line.{line_of}
 use Rattle.session.specs.Listing.{listing_names, refusal_text}
 use Rattle.session.specs.Session.{moment_of, wait_of, due_call, call_of, gives_moment, well_formed, refusal_of, after_of, shown_by, shown_of, check_of, Turn, turn_of, Run, onward, run_from, run_of, listing}

@@ -1,5 +1,6 @@
 use mathlib.Core.Path.{sym, ap, ◌∙◌}
 use Rattle.session.specs.Line.{byte_of, data_of, select_of, supply_of, action_of}
+use Rattle.session.proofs.Fields.{value_bound}
 use Rattle.session.proofs.line.action_of.Goals as goal
 
 pub returns-then-starts : goal.returns-then-starts
@@ -31,3 +32,9 @@ pub returns : goal.returns
 unfolding action_of
 returns c =
     rw (sym c.starts.ensures ∙ c.if-starts.false, sym c.starts-2.ensures ∙ c.if-starts-2.false, sym c.starts-3.ensures ∙ c.if-starts-3.false, sym c.starts-4.ensures ∙ c.if-starts-4.false, sym c.starts-5.ensures ∙ c.if-starts-5.false) c.look_of.ensures
+
+pub byte_of-requires : goal.byte_of-requires
+byte_of-requires c = rw c.value_at.ensures (value_bound _ 5 255)
+
+pub supply_of-requires : goal.supply_of-requires
+supply_of-requires c = rw c.value_at-then-starts-4.ensures (value_bound _ 7 65535)

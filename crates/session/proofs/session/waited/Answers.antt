@@ -1,12 +1,13 @@
 use mathlib.Core.Bool.{true, false}
-use mathlib.Core.Path.{sym, ◌∙◌}
+use mathlib.Core.Path.{sym, ap, ◌∙◌}
+use Rattle.controller.specs.declared.state.Ready.{Ready}
 use Rattle.session.proofs.Turns.{waited_due}
 use Rattle.session.specs.Closed.{waited_of}
 use Rattle.session.proofs.session.waited.Goals as goal
 
 pub returns-in_default : goal.returns-in_default
 unfolding waited_of
-returns-in_default c = rw c.in_default.is
+returns-in_default c = sym (ap (λ (r : Ready). waited_of c.args.state r c.args.moment) c.in_default.is)
 
 pub returns-then-le : goal.returns-then-le
 returns-then-le c =

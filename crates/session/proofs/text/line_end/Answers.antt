@@ -1,4 +1,3 @@
-use Prim.Native.Nat.{◌-◌}
 use Rattle.session.proofs.Texts.{line_none, line_here, line_past}
 use borrow.Author.Rules.{rules}
 use native.Mathlib.Omega.{arith}

@@ -1,4 +1,3 @@
-use Prim.Native.Nat.{◌-◌}
 use mathlib.Core.Path.{sym, ◌∙◌}
 use Rattle.session.proofs.Texts.{starts_all, starts_short, starts_differs, starts_past}
 use borrow.Author.Rules.{rules}
