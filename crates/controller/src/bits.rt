@@ -3,9 +3,9 @@
 ghost use Rattle.std.specs.Prelude.{◌≡◌, true, false, ◌+◌, ◌*◌, ◌/◌, ◌%◌, ◌^◌, ◌≤◌, ◌<◌};
 ghost use Rattle.controller.specs.Check.{group_ok};
 ghost use Rattle.controller.specs.Event.{ram_after, icons_after};
-ghost use Rattle.controller.specs.Bits.{taking as takingOf, with_bits, received, taken, rising as risingOf, shift_in};
+ghost use Rattle.controller.specs.Bits.{taking as taking_of, with_bits, received, taken, rising as rising_of, shift_in};
 ghost use Rattle.controller.specs.State.{with_serial};
-ghost use Rattle.controller.specs.Closed.{registers_ok, completes as completesOf, Short};
+ghost use Rattle.controller.specs.Closed.{registers_ok, completes as completes_of, Short};
 
 use crate::byte::{byte, is_waiting};
 use crate::check::{Check, check_group, registers_ok};
@@ -31,7 +31,7 @@ pub struct Received {
 
 // Bits are taken only while selected, supplied and ready.
 fn taking(state: Nt7508) -> bool
-    ensures { result ≡ takingOf state }
+    ensures { result ≡ taking_of state }
 {
     let serial = state.serial;
     let power = state.power;
@@ -89,7 +89,7 @@ fn grown(state: Nt7508, bits: u8, count: u8) -> Nt7508
 
 // Whether so many bits are taken and complete a byte.
 pub(crate) fn completes(state: Nt7508, count: u8) -> bool
-    ensures { result ≡ completesOf state count }
+    ensures { result ≡ completes_of state count }
 {
     let serial = state.serial;
     taking(state) & (8 <= (serial.bits as u16) + (count as u16))
@@ -97,7 +97,7 @@ pub(crate) fn completes(state: Nt7508, count: u8) -> bool
 
 // A group that completes no byte.
 fn short(state: Nt7508, bits: u8, count: u8) -> Nt7508
-    requires count_value { completesOf state count ≡ false }
+    requires count_value { completes_of state count ≡ false }
     requires count_value_2 { group_ok bits count ≡ true }
     ensures { Short state bits count result }
 {
@@ -115,7 +115,7 @@ fn short(state: Nt7508, bits: u8, count: u8) -> Nt7508
 // A group that completes a byte. Its checks have been made, but for the scan's.
 fn whole(state: Nt7508, bits: u8, count: u8, moment: Time, ram: &[u8], icons: &[u8]) -> Taken
     requires icons_value { registers_ok state bits count moment ram.now icons.now ≡ true }
-    requires count_value { completesOf state count ≡ true }
+    requires count_value { completes_of state count ≡ true }
     ensures { taken result ram.now icons.now ≡ shift_in state bits count moment ram.now icons.now }
 {
     let serial = state.serial;
@@ -214,7 +214,7 @@ impl Nt7508 {
 
     // One rising edge of the serial clock.
     pub fn rising(self, bit: bool, moment: Time, ram: &mut [u8], icons: &mut [u8]) -> Received
-        ensures { received result ram.new icons.new ≡ risingOf self bit moment ram.old icons.old }
+        ensures { received result ram.new icons.new ≡ rising_of self bit moment ram.old icons.old }
     {
         self.shift_in(bit as u8, 1, moment, ram, icons)
     }

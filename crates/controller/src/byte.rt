@@ -3,10 +3,10 @@
 ghost use Rattle.std.specs.Prelude.{◌≡◌, true};
 ghost use Rattle.checks.specs.Checks.{changed};
 ghost use Rattle.clock.specs.Time.{in_range};
-ghost use Rattle.scan.specs.Check.{answered as scanAnswered, memory_ok, check_scan};
+ghost use Rattle.scan.specs.Check.{answered as scan_answered, memory_ok, check_scan};
 ghost use Rattle.scan.specs.Run.{byte_scan};
 ghost use Rattle.controller.specs.Check.{refused, valid_state};
-ghost use Rattle.controller.specs.Event.{unstored as unstoredOf};
+ghost use Rattle.controller.specs.Event.{unstored as unstored_of};
 ghost use Rattle.controller.specs.Byte.{waiting, conditions_of, next_column, store_of, data_step, page_sent, step_of, byte_taken};
 ghost use Rattle.controller.specs.Closed.{display_then, power_then, running_by};
 
@@ -165,7 +165,7 @@ fn running_by(serial: Serial, power: Power, byte: u8) -> Running
 // The scan after a byte. What is to be stored is not in lent memory yet: a data byte makes no scan
 // begin, and only a scan that begins reads memory.
 fn scan_by(state: Nt7508, byte: u8, moment: Time, ram: &[u8], icons: &[u8]) -> scan::Changed
-    ensures { scanAnswered result ≡ byte_scan state.scan state.display (display_then state.serial state.display byte) moment (page_sent state) (running_by state.serial state.power byte) ram.now icons.now }
+    ensures { scan_answered result ≡ byte_scan state.scan state.display (display_then state.serial state.display byte) moment (page_sent state) (running_by state.serial state.power byte) ram.now icons.now }
 {
     let scan = state.scan;
     let display = display_then(state.serial, state.display, byte);
@@ -179,7 +179,7 @@ pub(crate) fn byte(state: Nt7508, byte: u8, moment: Time, ram: &[u8], icons: &[u
     requires icons_value { memory_ok ram.now icons.now ≡ true }
     requires moment_value { in_range moment ≡ true }
     requires state_value { valid_state state ≡ true }
-    ensures { (refused result.check, result.stepped) ≡ changed (check_scan state.scan) (byte_taken state byte moment ram.now icons.now) (unstoredOf state) }
+    ensures { (refused result.check, result.stepped) ≡ changed (check_scan state.scan) (byte_taken state byte moment ram.now icons.now) (unstored_of state) }
 {
     let answer = scan_by(state, byte, moment, ram, icons);
     let check = answer.check;

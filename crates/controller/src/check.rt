@@ -2,9 +2,9 @@
 ghost use Rattle.std.specs.Prelude.{◌≡◌};
 ghost use Rattle.checks.specs.Checks.{row, first_of};
 ghost use Rattle.clock.specs.Time.{in_range};
-ghost use Rattle.scan.specs.Check.{refused as scanRefused, memory_ok};
+ghost use Rattle.scan.specs.Check.{refused as scan_refused, memory_ok};
 ghost use Rattle.controller.specs.Closed.{lent_ok, registers_ok};
-ghost use Rattle.controller.specs.Check.{number, refused, awaits as awaitsOf, valid_pending, valid_serial, valid_saved, valid_address, valid_power, valid_state, check_state, clock_not_later, ready_not_earlier, restore_ok, group_ok, in_order, check_moment, check_memory, check_lent, check_group, check_image, check_restore};
+ghost use Rattle.controller.specs.Check.{number, refused, awaits as awaits_of, valid_pending, valid_serial, valid_saved, valid_address, valid_power, valid_state, check_state, clock_not_later, ready_not_earlier, restore_ok, group_ok, in_order, check_moment, check_memory, check_lent, check_group, check_image, check_restore};
 
 use crate::state::{Address, Nt7508, Pending, Power, Ready, SavedColumn, Serial};
 use clock::Time;
@@ -58,7 +58,7 @@ fn first(a: Check, b: Check) -> Check
 
 // Whether a command byte awaits a parameter.
 pub(crate) fn awaits(byte: u8) -> bool
-    ensures { result ≡ awaitsOf byte }
+    ensures { result ≡ awaits_of byte }
 {
     ((0x40 <= byte) & (byte <= 0x4f))
         | (byte == 0x81)
@@ -136,7 +136,7 @@ impl Nt7508 {
 
 // A check of the scan by this crate's names, which have the same numbers.
 pub(crate) fn by_scan(check: scan::Check) -> Check
-    ensures { refused result ≡ scanRefused check }
+    ensures { refused result ≡ scan_refused check }
 {
     match check {
         scan::Check::Passed => Check::Passed,

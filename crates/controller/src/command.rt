@@ -1,7 +1,7 @@
 // Command bytes: for each register, the bytes that set it and what they set, one group at a time.
 ghost use Rattle.std.specs.Prelude.{◌-◌, ◌≡◌, cond, true, false, set};
-ghost use Rattle.controller.specs.Check.{between as betweenOf};
-ghost use Rattle.controller.specs.Command.{flag_after, column_set, display_after, analog_after, power_after, address_after, duty_with, lines_of, display_with, analog_with, with_pending, acted as actedOf, command_step};
+ghost use Rattle.controller.specs.Check.{between as between_of};
+ghost use Rattle.controller.specs.Command.{flag_after, column_set, display_after, analog_after, power_after, address_after, duty_with, lines_of, display_with, analog_with, with_pending, acted as acted_of, command_step};
 ghost use Rattle.controller.specs.State.{palette, with_serial};
 
 use crate::check::awaits;
@@ -13,7 +13,7 @@ use clock::Time;
 const RESET: u8 = 0xe2;
 
 fn between(low: u8, high: u8, byte: u8) -> bool
-    ensures { result ≡ betweenOf low high byte }
+    ensures { result ≡ between_of low high byte }
 {
     (low <= byte) & (byte <= high)
 }
@@ -59,7 +59,7 @@ fn flag_after(off: u8, on: u8, byte: u8, present: bool) -> bool
 
 // A register that a run of bytes sets.
 fn by_run(low: u8, high: u8, byte: u8, value: u8, present: u8) -> u8
-    ensures { result ≡ cond (betweenOf low high byte) value present }
+    ensures { result ≡ cond (between_of low high byte) value present }
 {
     pick((low <= byte) & (byte <= high), value, present)
 }
@@ -218,7 +218,7 @@ fn lines_of(byte: u8) -> u8
 
 // The palette with the entry that a command names.
 fn palette_with(present: [u8; 8], command: u8, byte: u8) -> [u8; 8]
-    ensures { result ≡ cond (betweenOf 0x88 0x8f command) (set present (command - 0x88) byte) present }
+    ensures { result ≡ cond (between_of 0x88 0x8f command) (set present (command - 0x88) byte) present }
 {
     if between(0x88, 0x8f, command) {
         let at = (command - 0x88) as usize;
@@ -258,7 +258,7 @@ fn analog_with(analog: voltage::Settings, command: u8, byte: u8) -> voltage::Set
 
 // Every register after a byte that awaits no parameter.
 fn acted(state: Nt7508, byte: u8) -> Nt7508
-    ensures { result ≡ actedOf state byte }
+    ensures { result ≡ acted_of state byte }
 {
     let display = display_after(state.display, byte);
     let analog = analog_after(state.analog, byte);

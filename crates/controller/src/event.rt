@@ -1,6 +1,6 @@
 // The event that a byte gives to the listener, and the byte of lent memory that is to be stored.
 ghost use Rattle.std.specs.Prelude.{◌≡◌};
-ghost use Rattle.controller.specs.Event.{unstored as unstoredOf};
+ghost use Rattle.controller.specs.Event.{unstored as unstored_of};
 
 use crate::state::Nt7508;
 use clock::Time;
@@ -47,7 +47,7 @@ pub struct Stepped {
 
 // Nothing to tell and nothing to store.
 pub(crate) fn unstored(state: Nt7508) -> Stepped
-    ensures { result ≡ unstoredOf state }
+    ensures { result ≡ unstored_of state }
 {
     Stepped {
         state: state,

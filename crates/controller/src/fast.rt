@@ -3,7 +3,7 @@
 // that the other registers need not be handed over. Any other group goes by bits.rt.
 ghost use Rattle.std.specs.Prelude.{◌≡◌};
 ghost use Rattle.controller.specs.Event.{ram_after, icons_after};
-ghost use Rattle.controller.specs.Fast.{addressing as addressingOf, no_pending, keeps as keepsOf, registers_stay, not_fast, fast_step_of, fast_step};
+ghost use Rattle.controller.specs.Fast.{addressing as addressing_of, no_pending, keeps as keeps_of, registers_stay, not_fast, fast_step_of, fast_step};
 
 use crate::bits::{completes, keep};
 use crate::byte::{conditions_of, next_column, page_sent, store_of};
@@ -27,7 +27,7 @@ pub struct FastStep {
 
 // Commands that set page or column, or nothing.
 fn addressing(byte: u8) -> bool
-    ensures { result ≡ addressingOf byte }
+    ensures { result ≡ addressing_of byte }
 {
     (byte <= 0x1f) | ((0xb0 <= byte) & (byte <= 0xbf)) | (byte == 0xe3)
 }
@@ -43,7 +43,7 @@ fn no_pending(pending: Pending) -> bool
 
 // A byte that leaves every register but the address as it is.
 fn keeps(serial: Serial, byte: u8) -> bool
-    ensures { result ≡ keepsOf serial byte }
+    ensures { result ≡ keeps_of serial byte }
 {
     let pending = serial.pending;
     serial.data | (no_pending(pending) & addressing(byte))

@@ -2,7 +2,7 @@
 // completes, the end of the wait, the setting finder; and `restore`, which hands a state back.
 ghost use Rattle.std.specs.Prelude.{◌≡◌, ◌<◌};
 ghost use Rattle.controller.specs.Check.{answered};
-ghost use Rattle.controller.specs.Look.{answered_voltages, voltages_of, answered_drive, drive_of, painted, render_of, effect_edges, answered_edges, serial_effect_edges, end_of, answered_deadline, deadline_of, SaysOf, restore as restoreOf};
+ghost use Rattle.controller.specs.Look.{answered_voltages, voltages_of, answered_drive, drive_of, painted, render_of, effect_edges, answered_edges, serial_effect_edges, end_of, answered_deadline, deadline_of, SaysOf, restore as restore_of};
 
 use crate::byte::conditions_of;
 use crate::check::{
@@ -180,7 +180,7 @@ impl Nt7508 {
 
     // A state that was saved elsewhere, with its RAM and icons: handed back if no check turns it down.
     pub fn restore(self, moment: Time, ram: &[u8], icons: &[u8]) -> Changed
-        ensures { answered result ≡ restoreOf self moment ram.now icons.now }
+        ensures { answered result ≡ restore_of self moment ram.now icons.now }
     {
         Changed {
             check: check_restore(self, moment, ram, icons),

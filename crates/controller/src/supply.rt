@@ -3,7 +3,7 @@ ghost use Rattle.std.specs.Prelude.{◌≡◌, ◌+◌, true, length};
 ghost use Rattle.std.proofs.Math.Option.{none};
 ghost use Rattle.clock.specs.Time.{raw, time_of, micros_raw, in_range};
 ghost use Rattle.controller.specs.Check.{answered, supplied_at, check_moment};
-ghost use Rattle.controller.specs.Supply.{selected_as, with_data, with_temperature, with_ready, with_rail, fallen as fallen_of, chilled as chilledOf, cold_risen, warm_risen, risen as risenOf, switched as switchedOf, railed as railedOf, deadline_met, select as select_of, command_data, set_temperature, set_supply, at_deadline, zeros, lost_by, lose_volatile};
+ghost use Rattle.controller.specs.Supply.{selected_as, with_data, with_temperature, with_ready, with_rail, fallen as fallen_of, chilled as chilled_of, cold_risen, warm_risen, risen as risen_of, switched as switched_of, railed as railed_of, deadline_met, select as select_of, command_data, set_temperature, set_supply, at_deadline, zeros, lost_by, lose_volatile};
 ghost use Rattle.controller.specs.State.{with_serial, with_power};
 
 use crate::byte::conditions_of;
@@ -85,7 +85,7 @@ fn fallen(state: Nt7508, now: Time) -> Nt7508
 
 // Rail 0 marks cold.
 fn chilled(state: Nt7508, millivolts: u16) -> Nt7508
-    ensures { result ≡ chilledOf state millivolts }
+    ensures { result ≡ chilled_of state millivolts }
 {
     let before = state.power;
     let ready = before.ready;
@@ -139,7 +139,7 @@ fn warm_risen(state: Nt7508, now: Time) -> Nt7508
 
 fn risen(state: Nt7508, now: Time) -> Nt7508
     requires { check_moment state now ≡ none }
-    ensures { result ≡ risenOf state now }
+    ensures { result ≡ risen_of state now }
 {
     let power = state.power;
     if power.cold {
@@ -151,7 +151,7 @@ fn risen(state: Nt7508, now: Time) -> Nt7508
 // A fall where the supply ceases, cold at 0, a rise where it returns. The supply itself is not set yet.
 fn switched(state: Nt7508, millivolts: u16, now: Time) -> Nt7508
     requires { check_moment state now ≡ none }
-    ensures { result ≡ switchedOf state millivolts now }
+    ensures { result ≡ switched_of state millivolts now }
 {
     let power = state.power;
     let on = supplied_at(millivolts);
@@ -167,7 +167,7 @@ fn switched(state: Nt7508, millivolts: u16, now: Time) -> Nt7508
 // The supply set, with what a fall or a rise does.
 fn railed(state: Nt7508, millivolts: u16, now: Time) -> Nt7508
     requires { check_moment state now ≡ none }
-    ensures { result ≡ railedOf state millivolts now }
+    ensures { result ≡ railed_of state millivolts now }
 {
     let mut next = switched(state, millivolts, now);
     let before = next.power;

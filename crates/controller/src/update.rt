@@ -1,6 +1,6 @@
 // The update call: the scan stays as counted to a moment.
 ghost use Rattle.std.specs.Prelude.{◌≡◌};
-ghost use Rattle.controller.specs.Update.{answered_update, update as updateOf};
+ghost use Rattle.controller.specs.Update.{answered_update, update as update_of};
 
 use crate::check::{Check, check_moment};
 use crate::state::{Nt7508, with_scan};
@@ -18,7 +18,7 @@ pub struct Updated {
 impl Nt7508 {
     // Counts the scan to a moment for good. No other call answers otherwise for it.
     pub fn update(self, now: Time) -> Updated
-        ensures { answered_update result ≡ updateOf self now }
+        ensures { answered_update result ≡ update_of self now }
     {
         let check = check_moment(self, now);
         let Check::Passed = check else {

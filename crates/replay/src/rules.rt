@@ -1,7 +1,7 @@
 // The rules of a list: memory stands there as two numbers, a long answer as its sum, and a temperature
 // with 2^31 added to it.
 ghost use Rattle.std.specs.Prelude.{◌≡◌};
-ghost use Rattle.replay.specs.Rules.{added as addedTo, sum_of, sum_of_words, filled, temperature_of};
+ghost use Rattle.replay.specs.Rules.{added as added_to, sum_of, sum_of_words, filled, temperature_of};
 
 pub fn widened(x: u8) -> u64
     ensures { result ≡ x }
@@ -11,7 +11,7 @@ pub fn widened(x: u8) -> u64
 
 // One number more in a sum.
 pub fn added(sum: u64, x: u64) -> u64
-    ensures { result ≡ addedTo sum x }
+    ensures { result ≡ added_to sum x }
 {
     (31 * (sum % 4294967296) + x % 4294967296) % 4294967296
 }

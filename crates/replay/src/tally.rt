@@ -1,6 +1,6 @@
 // How far a list is replayed.
 ghost use Rattle.std.specs.Prelude.{◌≡◌};
-ghost use Rattle.replay.specs.Tally.{more as moreThan, started, counted as countedCase, ended as endedAt};
+ghost use Rattle.replay.specs.Tally.{more as more_than, started, counted as counted_case, ended as ended_at};
 
 // The place of the next case, how many cases there were before it, and how many of them differ.
 #[derive(Clone, Copy)]
@@ -11,7 +11,7 @@ pub struct Tally {
 }
 
 fn more(count: u64) -> u64
-    ensures { result ≡ moreThan count }
+    ensures { result ≡ more_than count }
 {
     std::num::wrapping_add_u64(count, 1)
 }
@@ -29,7 +29,7 @@ impl Tally {
 
     // After a case that agrees or differs, and the place behind it.
     pub fn counted(self, next: usize, agrees: bool) -> Self
-        ensures { result ≡ countedCase self next agrees }
+        ensures { result ≡ counted_case self next agrees }
     {
         let mut tally = self;
         tally.at = next;
@@ -43,7 +43,7 @@ impl Tally {
 
     // Where there is no case: nothing behind it is read.
     pub fn ended(self, end: usize) -> Self
-        ensures { result ≡ endedAt self end }
+        ensures { result ≡ ended_at self end }
     {
         let mut tally = self;
         tally.at = end;

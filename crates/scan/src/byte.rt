@@ -4,9 +4,9 @@ ghost use Rattle.std.specs.Prelude.{◌≡◌, true, length};
 ghost use Rattle.std.proofs.Math.Option.{none};
 ghost use Rattle.clock.specs.Time.{in_range};
 ghost use Rattle.scan.specs.Check.{answered, valid_settings, check_scan};
-ghost use Rattle.scan.specs.Latch.{retained as retainedOf};
-ghost use Rattle.scan.specs.Run.{updated as updatedOf, byte_scan};
-ghost use Rattle.scan.specs.Byte.{has_clock, lines_stay, settled as settled_of, steady as steadyOf};
+ghost use Rattle.scan.specs.Latch.{retained as retained_of};
+ghost use Rattle.scan.specs.Run.{updated as updated_of, byte_scan};
+ghost use Rattle.scan.specs.Byte.{has_clock, lines_stay, settled as settled_of, steady as steady_of};
 
 use crate::check::{Changed, Check, check_lent};
 use crate::count::latest;
@@ -50,7 +50,7 @@ pub(crate) fn settled(scan: Scan, settings: Settings, running: Running) -> bool
 
 // A byte before which no edge is due leaves the scan as it is.
 fn steady(scan: Scan, settings: Settings, page: DataPage, running: Running) -> bool
-    ensures { result ≡ steadyOf scan settings page running }
+    ensures { result ≡ steady_of scan settings page running }
 {
     let latch = scan.latch;
     let settled = settled(scan, settings, running);
@@ -74,7 +74,7 @@ fn altered(
     requires scan_value { check_scan scan ≡ none }
     requires ram_len { length ram.now ≡ 4096 }
     requires icons_len { length icons.now ≡ 256 }
-    ensures { result ≡ updatedOf (retainedOf scan before page ram.now icons.now) after moment running ram.now icons.now }
+    ensures { result ≡ updated_of (retained_of scan before page ram.now icons.now) after moment running ram.now icons.now }
 {
     if steady(scan, after, page, running) {
         return scan;

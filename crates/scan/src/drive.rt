@@ -6,7 +6,7 @@ ghost use Rattle.clock.specs.Time.{in_range};
 ghost use Rattle.voltage.specs.Check as analogs;
 ghost use Rattle.voltage.specs.Voltage.{voltages};
 ghost use Rattle.scan.specs.Check.{valid_settings, check_scan};
-ghost use Rattle.scan.specs.Drive.{runs as runsBy, driven as drivenBy, grounded as groundedBy, common_of, undriven as undrivenOf, drive_of, drive_at, quanta_of, frame_at, off, answered_drive, drive_scan, microvolts, level_microvolts, common_level, segment_level, active_in, common_microvolts, segment_microvolts};
+ghost use Rattle.scan.specs.Drive.{runs as runs_by, driven as driven_by, grounded as grounded_by, common_of, undriven as undriven_of, drive_of, drive_at, quanta_of, frame_at, off, answered_drive, drive_scan, microvolts, level_microvolts, common_level, segment_level, active_in, common_microvolts, segment_microvolts};
 
 use crate::check::{Check, check_lent};
 use crate::count::latest;
@@ -62,14 +62,14 @@ pub enum Electrode {
 impl Conditions {
     // Whether the scan runs.
     pub fn runs(self) -> bool
-        ensures { result ≡ runsBy self }
+        ensures { result ≡ runs_by self }
     {
         let supply = self.supply;
         self.oscillator_enabled & !supply.power_save
     }
 
     pub fn driven(self) -> bool
-        ensures { result ≡ drivenBy self }
+        ensures { result ≡ driven_by self }
     {
         let supply = self.supply;
         (2400 <= supply.supply_millivolts)
@@ -81,7 +81,7 @@ impl Conditions {
 
     // Power save grounds every electrode, where there is a supply.
     fn grounded(self) -> bool
-        ensures { result ≡ groundedBy self }
+        ensures { result ≡ grounded_by self }
     {
         let supply = self.supply;
         supply.power_save & (1650 <= supply.supply_millivolts) & !supply.waiting
@@ -103,7 +103,7 @@ fn common_of(scan: Scan) -> u8
 }
 
 fn undriven(conditions: Conditions, voltages: LcdVoltages) -> LcdDrive
-    ensures { result ≡ undrivenOf conditions voltages }
+    ensures { result ≡ undriven_of conditions voltages }
 {
     let mut drive = LcdDrive::OFF;
     drive.voltages = voltages;

@@ -1,7 +1,7 @@
 // The output latch: which of the 128 segments are active in the present quantum, and when the latch
 // is retained because memory or settings are about to change. Document 01, 'Scan'.
 ghost use Rattle.std.specs.Prelude.{◌≡◌, ◌<◌, length};
-ghost use Rattle.scan.specs.Latch.{latched_row, present_latch, shown as shown_of, affects, retained as retainedOf};
+ghost use Rattle.scan.specs.Latch.{latched_row, present_latch, shown as shown_of, affects, retained as retained_of};
 
 use crate::segments::{active_shades, row_words};
 use crate::settings::Settings;
@@ -82,7 +82,7 @@ pub(crate) fn retained(
     requires frc_bound { scan.frc < 4 }
     requires ram_len { length ram.now ≡ 4096 }
     requires icons_len { length icons.now ≡ 256 }
-    ensures { result ≡ retainedOf scan settings page ram.now icons.now }
+    ensures { result ≡ retained_of scan settings page ram.now icons.now }
 {
     let latch = scan.latch;
     if latch.latched | !affected(page, latched_row(scan)) {

@@ -4,7 +4,7 @@ ghost use Rattle.std.specs.Prelude.{◌≡◌, true, length};
 ghost use Rattle.std.proofs.Math.Option.{none};
 ghost use Rattle.clock.specs.Time.{in_range};
 ghost use Rattle.scan.specs.Check.{answered, valid_settings, check_scan};
-ghost use Rattle.scan.specs.Run.{running_after, cleared as clearedOf, taken as taken_of, begun as begunOf, stopped as stoppedOf, clocked as clockedOf, resumed as resumedOf, updated as updatedOf, before_byte, after_byte, fall_scan, rise_scan};
+ghost use Rattle.scan.specs.Run.{running_after, cleared as cleared_of, taken as taken_of, begun as begun_of, stopped as stopped_of, clocked as clocked_of, resumed as resumed_of, updated as updated_of, before_byte, after_byte, fall_scan, rise_scan};
 
 use crate::check::{Changed, Check, check_lent, check_moment};
 use crate::count::latest;
@@ -39,7 +39,7 @@ impl Running {
 // The scan with its line inversion ended, where the settings have none: an old interval must not
 // flip the polarity before the next frame end.
 fn cleared(scan: Scan, settings: Settings) -> Scan
-    ensures { result ≡ clearedOf scan settings }
+    ensures { result ≡ cleared_of scan settings }
 {
     if settings.inversion_lines != 0 {
         return scan;
@@ -82,7 +82,7 @@ fn taken(settings: Settings) -> Scan
 fn begun(settings: Settings, ram: &[u8], icons: &[u8]) -> Scan
     requires ram_len { length ram.now ≡ 4096 }
     requires icons_len { length icons.now ≡ 256 }
-    ensures { result ≡ begunOf settings ram.now icons.now }
+    ensures { result ≡ begun_of settings ram.now icons.now }
 {
     let scan = taken(settings);
     let segments = present_latch(scan, settings, ram, icons);
@@ -97,7 +97,7 @@ fn begun(settings: Settings, ram: &[u8], icons: &[u8]) -> Scan
 
 // The counters stay.
 fn stopped(scan: Scan) -> Scan
-    ensures { result ≡ stoppedOf scan }
+    ensures { result ≡ stopped_of scan }
 {
     let ticking = scan.ticking;
     let rate = ticking.rate;
@@ -109,7 +109,7 @@ fn clocked(scan: Scan, settings: Settings, moment: Time) -> Scan
     requires moment_value { in_range moment ≡ true }
     requires settings_value { valid_settings settings ≡ true }
     requires scan_value { check_scan scan ≡ none }
-    ensures { result ≡ clockedOf scan settings moment }
+    ensures { result ≡ clocked_of scan settings moment }
 {
     if settings.oscillator_control % 2 != 0 {
         return stopped(scan);
@@ -129,7 +129,7 @@ fn resumed(scan: Scan, settings: Settings, moment: Time, runs: bool) -> Scan
     requires moment_value { in_range moment ≡ true }
     requires settings_value { valid_settings settings ≡ true }
     requires scan_value { check_scan scan ≡ none }
-    ensures { result ≡ resumedOf scan settings moment runs }
+    ensures { result ≡ resumed_of scan settings moment runs }
 {
     if runs {
         return clocked(cleared(scan, settings), settings, moment);
@@ -151,7 +151,7 @@ pub(crate) fn updated(
     requires scan_value { check_scan scan ≡ none }
     requires ram_len { length ram.now ≡ 4096 }
     requires icons_len { length icons.now ≡ 256 }
-    ensures { result ≡ updatedOf scan settings moment running ram.now icons.now }
+    ensures { result ≡ updated_of scan settings moment running ram.now icons.now }
 {
     match running {
         Running::Begins => clocked(begun(settings, ram, icons), settings, moment),

@@ -1,6 +1,6 @@
 // A session: each line's call on the state and memory that the last one left.
 ghost use Rattle.std.specs.Prelude.{◌≡◌, drop};
-ghost use Rattle.controller.specs.Check.{answered as changedTo};
+ghost use Rattle.controller.specs.Check.{answered as changed_to};
 ghost use Rattle.decimal.specs.Print.{put};
 ghost use Rattle.strike.specs.Calls.{start as start_of};
 ghost use Rattle.session.specs.Text.{lines_of};
@@ -153,7 +153,7 @@ fn by_driven(state: Nt7508, driven: Driven) -> Done
 
 // The deadline call at the end of the wait, if that is not later than the line's moment.
 fn waited(state: Nt7508, moment: Time) -> Changed
-    ensures { changedTo result ≡ waited_of state state.power.ready moment }
+    ensures { changed_to result ≡ waited_of state state.power.ready moment }
 {
     let power = state.power;
     let ready = power.ready;
