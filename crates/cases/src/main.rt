@@ -8,8 +8,9 @@
 mod controller_cases;
 mod session_cases;
 
-use libc::STDOUT_FILENO;
 use replay::{Case, Tally};
+use std::rt::Files;
+use std::{fs, io};
 
 // A case: the place behind it, and whether ours answers as it says.
 #[derive(Clone, Copy)]
@@ -37,25 +38,30 @@ fn line_at(
     }
 }
 
-fn name(words: &[u8], number: usize) {
-    io::write_all(STDOUT_FILENO, words);
-    io::print_decimal(STDOUT_FILENO, std::num::wrapping_add_u64(number as u64, 1));
-    io::write_all(STDOUT_FILENO, b"\n");
+fn name(rt: &impl Print, what: &str, number: usize) -> io::Result<()> {
+    let number = number.wrapping_add(1);
+    println!(rt; "{what}: number {number}")
 }
 
-fn count(list: &[u8], tally: Tally, number: usize, replayed: Replayed) -> Tally {
+fn count(
+    rt: &impl Print,
+    list: &[u8],
+    tally: Tally,
+    number: usize,
+    replayed: Replayed,
+) -> io::Result<Tally> {
     let Replayed::Case { next, agrees } = replayed else {
-        name(b"no case: number ", number);
-        return tally.ended(list.len());
+        name(rt, "no case", number)?;
+        return Ok(tally.ended(list.len()));
     };
     if !agrees {
-        name(b"differs: number ", number);
+        name(rt, "differs", number)?;
     }
-    tally.counted(next, agrees)
+    Ok(tally.counted(next, agrees))
 }
 
 // Replays a list, of sessions or of lines. Each has at least a byte, so there are no more than bytes.
-fn replay_list(list: &[u8], sessions: bool) -> Tally {
+fn replay_list(rt: &impl Print, list: &[u8], sessions: bool) -> io::Result<Tally> {
     let mut block = [0u64; 75];
     let mut ram = [0u8; 4096];
     let mut icons = [0u8; 256];
@@ -67,35 +73,20 @@ fn replay_list(list: &[u8], sessions: bool) -> Tally {
             } else {
                 line_at(list, tally.at, &mut block, &mut ram, &mut icons)
             };
-            tally = count(list, tally, number, replayed);
+            tally = count(rt, list, tally, number, replayed)?;
         }
     }
-    tally
+    Ok(tally)
 }
 
-// Reads a list into lent bytes and replays it.
-fn replay_from(fd: i32, bytes: &mut [u8], sessions: bool) -> Tally {
-    let n = io::read_full(fd, bytes);
-    libc::close(fd);
-    replay_list(&bytes[..n], sessions)
+// Replays the list of a file.
+fn replay_file(rt: &(impl Files + Print + Alloc), path: &str, sessions: bool) -> io::Result<()> {
+    let list = fs::read(rt, path)?;
+    let tally = replay_list(rt, &list, sessions)?;
+    println!(rt; "{} cases, {} differ", tally.cases, tally.differ)
 }
 
-// The array is a parameter here, since its length is then known from its type and not computed.
-fn replay_in(fd: i32, bytes: &mut [u8; 524288], sessions: bool) -> Tally {
-    replay_from(fd, bytes, sessions)
-}
-
-// Replays the list of a file. One that is not there has no cases.
-fn replay_file(path: &[u8], sessions: bool) {
-    let mut bytes = [0u8; 524288];
-    let tally = replay_in(os::open_read(path), &mut bytes, sessions);
-    io::print_decimal(STDOUT_FILENO, tally.cases);
-    io::write_all(STDOUT_FILENO, b" cases, ");
-    io::print_decimal(STDOUT_FILENO, tally.differ);
-    io::write_all(STDOUT_FILENO, b" differ\n");
-}
-
-fn main() {
-    replay_file(b"controller", false);
-    replay_file(b"session", true);
+fn main(rt: HostRuntime) -> io::Result<()> {
+    replay_file(&rt, "controller", false)?;
+    replay_file(&rt, "session", true)
 }

@@ -8,16 +8,14 @@ ghost use Rattle.clock.specs.Check.{refused};
 ghost use Rattle.clock.specs.Edges.{advance_clock};
 
 use clock::{Check, Clock, Edges, Made, Rate, Refusal, Time};
-use libc::STDOUT_FILENO;
+use std::io;
 
-fn print_edges(clock: Clock, rate: Rate, now: Time) {
+fn print_edges(rt: &impl Print, clock: Clock, rate: Rate, now: Time) -> io::Result<()> {
     let counted = clock.edges_to(rate, now);
     let Edges::Count(edges) = counted else {
-        io::write_all(STDOUT_FILENO, b"refused\n");
-        return;
+        return println!(rt; "refused");
     };
-    io::print_decimal(STDOUT_FILENO, edges);
-    io::write_all(STDOUT_FILENO, b"\n");
+    println!(rt; "{edges}")
 }
 
 // The answer, and the clock that is left.
@@ -49,52 +47,48 @@ fn number_of(check: Check) -> u64 {
     }
 }
 
-fn print_word(word: u64, end: &[u8]) {
-    io::print_decimal(STDOUT_FILENO, word);
-    io::write_all(STDOUT_FILENO, end);
-}
-
 // Moves a clock in place and prints the refusal's number, 0 where there is none, then the last edge and
 // the ordinal of the clock that is left.
-fn print_advanced(clock: Clock, rate: Rate, edges: u64) -> Clock {
+fn print_advanced(rt: &impl Print, clock: Clock, rate: Rate, edges: u64) -> io::Result<Clock> {
     let next = move_in_place(clock, rate, edges);
-    let check = next.check;
+    let number = number_of(next.check);
     let moved = next.clock;
     let at = moved.at;
-    io::write_all(STDOUT_FILENO, b"advance ");
-    print_word(number_of(check), b" ");
-    print_word(at.seconds, b" ");
-    print_word(at.fraction, b" ");
-    print_word(moved.ordinal, b"\n");
-    moved
+    println!(rt;
+        "advance {number} {} {} {}",
+        at.seconds, at.fraction, moved.ordinal
+    )?;
+    Ok(moved)
 }
 
-pub(crate) fn figures() {
+pub(crate) fn figures(rt: &impl Print) -> io::Result<()> {
     let rate = Rate::lcd(0, 0, 128);
     let made = Clock::new(Time::ZERO, rate);
     let Made::Clock(clock) = made else {
-        io::write_all(STDOUT_FILENO, b"refused\n");
-        return;
+        return println!(rt; "refused");
     };
     print_edges(
+        rt,
         clock,
         rate,
         Time {
             seconds: 1,
             fraction: 0,
         },
-    );
+    )?;
     print_edges(
+        rt,
         clock,
         rate,
         Time {
             seconds: 0,
             fraction: u64::MAX,
         },
-    );
+    )?;
     // The second time by more edges than there are up to 2^32 s.
-    let moved = print_advanced(clock, rate, 129024);
-    print_advanced(moved, rate, 0x4_0000_0000_0000);
+    let moved = print_advanced(rt, clock, rate, 129024)?;
+    print_advanced(rt, moved, rate, 0x4_0000_0000_0000)?;
+    Ok(())
 }
 
 // Whether a clock has these numbers: last edge, period (two words and a remainder), denominator, fraction

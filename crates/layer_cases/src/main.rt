@@ -11,8 +11,9 @@ mod scan_cases;
 mod voltage_cases;
 mod words;
 
-use libc::STDOUT_FILENO;
 use replay::{Case, Tally};
+use std::rt::Files;
+use std::{fs, io};
 
 // Whether ours answers as a case says.
 fn agrees(kind: u64, w: &[u64; 108]) -> bool {
@@ -27,65 +28,49 @@ fn agrees(kind: u64, w: &[u64; 108]) -> bool {
     }
 }
 
-fn name_line(words: &[u8], line: usize) {
-    io::write_all(STDOUT_FILENO, words);
-    io::print_decimal(STDOUT_FILENO, std::num::wrapping_add_u64(line as u64, 1));
-    io::write_all(STDOUT_FILENO, b"\n");
+fn name_line(rt: &impl Print, what: &str, line: usize) -> io::Result<()> {
+    let number = line.wrapping_add(1);
+    println!(rt; "{what}: line {number}")
 }
 
 // Replays the next line, if there is one.
-fn replay_line(text: &[u8], tally: Tally, line: usize) -> Tally {
+fn replay_line(rt: &impl Print, text: &[u8], tally: Tally, line: usize) -> io::Result<Tally> {
     if text.len() <= tally.at {
-        return tally;
+        return Ok(tally);
     }
     let mut w = [0u64; 108];
     let case = replay::case_at(text, tally.at, &mut w);
     let Case::Of { kind, next } = case else {
-        name_line(b"no case: line ", line);
-        return tally.ended(text.len());
+        name_line(rt, "no case", line)?;
+        return Ok(tally.ended(text.len()));
     };
     let agrees = agrees(kind, &w);
     if !agrees {
-        name_line(b"differs: line ", line);
+        name_line(rt, "differs", line)?;
     }
-    tally.counted(next, agrees)
+    Ok(tally.counted(next, agrees))
 }
 
 // Replays a list. A line has at least a byte, so there are no more lines than bytes.
-fn replay_list(text: &[u8]) -> Tally {
+fn replay_list(rt: &impl Print, text: &[u8]) -> io::Result<Tally> {
     let mut tally = Tally::new();
     for line in 0..text.len() {
-        tally = replay_line(text, tally, line);
+        tally = replay_line(rt, text, tally, line)?;
     }
-    tally
+    Ok(tally)
 }
 
-// Reads a list into lent bytes and replays it.
-fn replay_from(fd: i32, bytes: &mut [u8]) -> Tally {
-    let n = io::read_full(fd, bytes);
-    libc::close(fd);
-    replay_list(&bytes[..n])
+// Replays the list of a file.
+fn replay_file(rt: &(impl Files + Print + Alloc), path: &str) -> io::Result<()> {
+    let text = fs::read(rt, path)?;
+    let tally = replay_list(rt, &text)?;
+    println!(rt; "{} cases, {} differ", tally.cases, tally.differ)
 }
 
-// The array is a parameter here, since its length is then known from its type and not computed.
-fn replay_in(fd: i32, bytes: &mut [u8; 524288]) -> Tally {
-    replay_from(fd, bytes)
-}
-
-// Replays the list of a file. One that is not there has no cases.
-fn replay_file(path: &[u8]) {
-    let mut bytes = [0u8; 524288];
-    let tally = replay_in(os::open_read(path), &mut bytes);
-    io::print_decimal(STDOUT_FILENO, tally.cases);
-    io::write_all(STDOUT_FILENO, b" cases, ");
-    io::print_decimal(STDOUT_FILENO, tally.differ);
-    io::write_all(STDOUT_FILENO, b" differ\n");
-}
-
-fn main() {
-    clock_cases::figures();
-    replay_file(b"clock");
-    voltage_cases::figures();
-    replay_file(b"voltage");
-    replay_file(b"scan");
+fn main(rt: HostRuntime) -> io::Result<()> {
+    clock_cases::figures(&rt)?;
+    replay_file(&rt, "clock")?;
+    voltage_cases::figures(&rt)?;
+    replay_file(&rt, "voltage")?;
+    replay_file(&rt, "scan")
 }

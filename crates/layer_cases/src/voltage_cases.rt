@@ -1,7 +1,7 @@
 // Cases of the voltages: what is answered in the cases P1 to P5 of document 01, 'Edge figures', some
 // answers of the setting finder, and one kind of lines.
 use crate::words::narrow;
-use libc::STDOUT_FILENO;
+use std::io;
 use voltage::finder::Found;
 use voltage::{Answer, LcdVoltages, Level, Settings, Supply};
 
@@ -28,88 +28,65 @@ fn supply(millivolts: u16, temperature: i32) -> Supply {
     }
 }
 
-fn number(n: u32) {
-    io::write_all(STDOUT_FILENO, b" ");
-    io::print_decimal(STDOUT_FILENO, n as u64);
+fn number(rt: &impl Print, n: u32) -> io::Result<()> {
+    print!(rt; " {n}")
 }
 
-fn level(l: Level) {
+fn level(rt: &impl Print, l: Level) -> io::Result<()> {
     match l {
-        Level::Absent => {
-            io::write_all(STDOUT_FILENO, b" -");
-        }
-        Level::Microvolts(v) => {
-            number(v);
-        }
+        Level::Absent => print!(rt; " -"),
+        Level::Microvolts(v) => number(rt, v),
     }
 }
 
 // The pump, the target, and V0 to V4.
-fn show(v: LcdVoltages) {
-    let pump = v.pump;
-    let v0 = v.v0;
-    let v1 = v.v1;
-    let v2 = v.v2;
-    let v3 = v.v3;
-    let v4 = v.v4;
-    level(pump);
-    number(v.target);
-    level(v0);
-    level(v1);
-    level(v2);
-    level(v3);
-    level(v4);
-    io::write_all(STDOUT_FILENO, b"\n");
+fn show(rt: &impl Print, v: LcdVoltages) -> io::Result<()> {
+    level(rt, v.pump)?;
+    number(rt, v.target)?;
+    level(rt, v.v0)?;
+    level(rt, v.v1)?;
+    level(rt, v.v2)?;
+    level(rt, v.v3)?;
+    level(rt, v.v4)?;
+    println!(rt; "")
 }
 
-fn case(name: &[u8], settings: Settings, supply: Supply) {
-    io::write_all(STDOUT_FILENO, name);
+fn case(rt: &impl Print, name: &str, settings: Settings, supply: Supply) -> io::Result<()> {
+    print!(rt; "{name}")?;
     match voltage::voltages(settings, supply) {
-        Answer::Voltages(v) => {
-            show(v);
-        }
-        Answer::Refused(_) => {
-            io::write_all(STDOUT_FILENO, b" refused\n");
-        }
+        Answer::Voltages(v) => show(rt, v),
+        Answer::Refused(_) => println!(rt; " refused"),
     }
 }
 
 // The pair that the finder answers for a band, at 25,000 millidegrees.
-fn find(low: u32, high: u32) {
-    io::write_all(STDOUT_FILENO, b"find");
+fn find(rt: &impl Print, low: u32, high: u32) -> io::Result<()> {
+    print!(rt; "find")?;
     match voltage::finder::find_setting(settings(0, 0, 0, 0), 25000, low, high) {
         Found::Setting {
             regulator,
             contrast,
-        } => {
-            number(regulator as u32);
-            number(contrast as u32);
-        }
-        Found::None => {
-            io::write_all(STDOUT_FILENO, b" none");
-        }
-        Found::Refused(_) => {
-            io::write_all(STDOUT_FILENO, b" refused");
-        }
+        } => println!(rt; " {regulator} {contrast}"),
+        Found::None => println!(rt; " none"),
+        Found::Refused(_) => println!(rt; " refused"),
     }
-    io::write_all(STDOUT_FILENO, b"\n");
 }
 
-pub(crate) fn figures() {
-    io::write_all(STDOUT_FILENO, b"case pump target v0 v1 v2 v3 v4\n");
-    io::write_all(STDOUT_FILENO, b"OFF");
-    show(LcdVoltages::OFF);
-    case(b"P1", settings(0, 32, 0, 0), supply(3000, 25000));
-    case(b"P2", settings(0, 32, 0, 0), supply(3000, 20000));
-    case(b"P3", settings(7, 61, 11, 0), supply(3600, 25000));
-    case(b"P3", settings(7, 62, 11, 0), supply(3600, 25000));
-    case(b"P4", settings(1, 53, 0, 0), supply(3000, 25000));
-    case(b"P4", settings(1, 53, 0, 0), supply(3001, 25000));
-    case(b"P5", settings(1, 53, 0, 7), supply(3001, 25000));
-    case(b"regulator", settings(8, 53, 0, 7), supply(3001, 25000));
-    find(4117000, 4117000);
-    find(15000000, 15047999);
-    find(4117000, 4116999);
+pub(crate) fn figures(rt: &impl Print) -> io::Result<()> {
+    println!(rt; "case pump target v0 v1 v2 v3 v4")?;
+    print!(rt; "OFF")?;
+    show(rt, LcdVoltages::OFF)?;
+    case(rt, "P1", settings(0, 32, 0, 0), supply(3000, 25000))?;
+    case(rt, "P2", settings(0, 32, 0, 0), supply(3000, 20000))?;
+    case(rt, "P3", settings(7, 61, 11, 0), supply(3600, 25000))?;
+    case(rt, "P3", settings(7, 62, 11, 0), supply(3600, 25000))?;
+    case(rt, "P4", settings(1, 53, 0, 0), supply(3000, 25000))?;
+    case(rt, "P4", settings(1, 53, 0, 0), supply(3001, 25000))?;
+    case(rt, "P5", settings(1, 53, 0, 7), supply(3001, 25000))?;
+    case(rt, "regulator", settings(8, 53, 0, 7), supply(3001, 25000))?;
+    find(rt, 4117000, 4117000)?;
+    find(rt, 15000000, 15047999)?;
+    find(rt, 4117000, 4116999)
 }
 
 // The settings of a line, in the order in which the original declares them.

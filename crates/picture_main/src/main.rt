@@ -2,12 +2,13 @@
 // PGM picture.
 #![tactic(auto)]
 
-use libc::{STDIN_FILENO, STDOUT_FILENO};
+use std::io::{self, Read, Write};
 
-fn main() {
-    let mut text = [0u8; 65537];
+fn main(rt: HostRuntime) -> io::Result<()> {
+    let mut text = Vec::new(rt.alloc());
+    // A byte more than the longest text, so that a longer one is seen to be too long.
+    rt.stdin().take(65_537).read_to_end(&mut text)?;
     let mut out = [0u8; picture::LENGTH];
-    let n = io::read_full(STDIN_FILENO, &mut text);
-    let written = picture::draw(&text[..n], &mut out);
-    io::write_all(STDOUT_FILENO, &out[..written]);
+    let written = picture::draw(&text, &mut out);
+    rt.stdout().write_all(&out[..written])
 }

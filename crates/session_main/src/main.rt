@@ -2,14 +2,15 @@
 // program'.
 #![tactic(auto)]
 
-use libc::{STDIN_FILENO, STDOUT_FILENO};
+use std::io::{self, Read, Write};
 
-fn main() {
-    let mut text = [0u8; 65537];
+fn main(rt: HostRuntime) -> io::Result<()> {
+    let mut text = Vec::new(rt.alloc());
+    // A byte more than the longest text, so that a longer one is seen to be too long.
+    rt.stdin().take(65_537).read_to_end(&mut text)?;
     let mut ram = [0u8; 4096];
     let mut icons = [0u8; 256];
-    let mut out = [0u8; 589824];
-    let n = io::read_full(STDIN_FILENO, &mut text);
-    let ended = session::run(&text[..n], &mut ram, &mut icons, &mut out);
-    io::write_all(STDOUT_FILENO, &out[..ended.written]);
+    let mut out = [0u8; 589_824];
+    let ended = session::run(&text, &mut ram, &mut icons, &mut out);
+    rt.stdout().write_all(&out[..ended.written])
 }

@@ -1,0 +1,15 @@
+use mathlib.Core.List.{List, map}
+use mathlib.Core.Path.{◌∙◌, ap}
+use Prim.Native.Nat.{ℕ}
+use borrow.Author.Rules.{rules}
+use Rattle.decimal.specs.Print.{put}
+use Rattle.picture.specs.Picture.{gray_of}
+use Rattle.picture.proofs.Drawing.{picture_put}
+use Rattle.picture.proofs.put_picture.Goals as goal
+
+pub returns : goal.returns
+returns c =
+    let a = c.args in
+    c.put_grays.ensures
+    ∙ ap (λ (q : List ℕ × ℕ). put q (map gray_of c.render.new.pixels)) c.put_bytes-at.ensures
+    ∙ picture_put a.state c.requires a.ram.now a.icons.now _ (search rules) (search rules) (search rules) c.render.result _ (a.out.now, 0) c.render.ensures
