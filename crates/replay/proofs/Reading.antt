@@ -1,5 +1,5 @@
 -- The case of a line, step by step as it is read.
-use Rattle.std.proofs.Common.{◌≡◌, ℕ, ◌<◌, ◌≤◌, List, ◌++◌, length, take, drop, sym, refl, ap, ◌∙◌, arith, length-take, le-ltb, lt-ltb, eq-eqb, ne_eqb}
+use Rattle.std.proofs.Common.{◌≡◌, ℕ, ◌<◌, ◌≤◌, List, ◌++◌, length, take, drop, sym, ap, ◌∙◌, arith, length-take, le-ltb, lt-ltb, eq-eqb, ne_eqb}
 use Rattle.decimal.specs.declared.Read.{Read}
 use Rattle.decimal.specs.declared.Line.{Line}
 use Rattle.decimal.specs.Decimal.{field_at, line_at}

@@ -3,7 +3,7 @@
 use Rattle.std.proofs.Common.{◌≡◌, ℕ, zero, suc, ◌+◌, ◌%◌, ◌^◌, ◌≤◌, min, Bool, true, false, cond, not, ◌&&◌, ◌||◌, List, sym, refl, ap, ◌∙◌, arith, le-ltb, lt-ltb}
 use mathlib.Core.Bool.{false≢true}
 use mathlib.Core.Option.{Option, none}
-use Rattle.checks.specs.Checks.{row, unless_refused}
+use Rattle.checks.specs.Checks.{unless_refused}
 use Rattle.checks.proofs.Tests.{both}
 use Rattle.clock.specs.declared.time.Time.{Time}
 use Rattle.clock.specs.declared.check.Refusal.{Refusal}

@@ -1,5 +1,5 @@
 -- The latch: what its words hold, what it depends on, and that keeping it or writing elsewhere changes nothing that is shown.
-use Rattle.std.proofs.Common.{◌≡◌, ℕ, zero, suc, ◌+◌, ◌-◌, ◌*◌, ◌/◌, ◌%◌, ◌^◌, ◌<◌, ◌≤◌, Bool, true, false, cond, not, ◌&&◌, ◌||◌, eqb, ltb, List, length, get_or, take, drop, set, sym, refl, ap, ◌∙◌, ⊎_elim, lt_of_lt_of_le, add-zero, pow-suc, one-add, arith, length-drop, length-take-le, drop-set-lt, pow_mono, shr-shr, ltb-false, ltb-true, ne_eqb, eqb-true}
+use Rattle.std.proofs.Common.{◌≡◌, ℕ, zero, suc, ◌+◌, ◌-◌, ◌*◌, ◌/◌, ◌%◌, ◌^◌, ◌<◌, ◌≤◌, Bool, true, false, cond, not, ◌&&◌, ◌||◌, eqb, ltb, List, length, get_or, take, drop, set, sym, refl, ap, ◌∙◌, ⊎_elim, add-zero, pow-suc, one-add, arith, length-drop, length-take-le, drop-set-lt, shr-shr, ltb-false, ltb-true, ne_eqb, eqb-true}
 use mathlib.Core.Bool.{or-true}
 use mathlib.Core.Option.{none}
 use lib.Seq.{drop-set-add, take-set-le}

@@ -6,7 +6,7 @@ use borrow.Author.Tests.{lt-leb}
 use Rattle.clock.specs.declared.rate.Rate.{Rate}
 use Rattle.clock.proofs.Laws.{moved_moved}
 use Rattle.clock.proofs.Rates.{same_refl}
-use Rattle.scan.specs.Closed.{quanta, ticked_by, flipped, flips_in, count_in, inversion_in, ended_rows, ended_frames, after, closed}
+use Rattle.scan.specs.Closed.{quanta, ticked_by, flipped, flips_in, inversion_in, ended_rows, ended_frames, after, closed}
 use Rattle.scan.specs.Fast.{inversion_on, onward}
 use Rattle.scan.specs.Quantum.{row_ends, frame_ends, lines_end, flips, count_on, inversion_after, frame_after, ticked, ticked_to, quantum}
 use Rattle.scan.specs.Settings.{pwm_of, frc_count_of, frame_of, rows_in, rate_of}

@@ -1,5 +1,5 @@
 -- Bytes that leave the scan as it is.
-use Rattle.std.proofs.Common.{◌≡◌, ℕ, true, false, not, ◌||◌, eqb, List, sym, eq-eqb, eqb-true}
+use Rattle.std.proofs.Common.{◌≡◌, ℕ, true, false, not, ◌||◌, List, sym, eq-eqb, eqb-true}
 use mathlib.Core.Bool.{false≢true}
 use borrow.Author.Tests.{not-true}
 use Rattle.checks.proofs.Tests.{both}

@@ -23,7 +23,7 @@ use Rattle.controller.specs.Event.{unstored}
 use Rattle.controller.specs.Byte.{waiting, byte_taken}
 use Rattle.controller.specs.Bits.{Outcome, taking, with_bits, quiet, performed, bit_taken, edge}
 use Rattle.controller.specs.Look.{end_of}
-use Rattle.controller.proofs.Checks.{Valid, valid, valid_check}
+use Rattle.controller.proofs.Checks.{valid, valid_check}
 use Rattle.strike.specs.Line.{Line, ready, takes, is_whole, value}
 use Rattle.strike.proofs.Bytes.{state_of, Tied}
 

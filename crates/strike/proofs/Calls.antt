@@ -10,7 +10,6 @@ use Rattle.checks.specs.Checks.{changed}
 use Rattle.clock.specs.declared.time.Time.{Time}
 use Rattle.clock.specs.Time.{in_range}
 use Rattle.scan.specs.declared.state.Scan.{Scan}
-use Rattle.scan.specs.State as scan
 use Rattle.scan.specs.Count.{count_to}
 use Rattle.scan.specs.Drive.{runs}
 use Rattle.scan.proofs.Checks as scans

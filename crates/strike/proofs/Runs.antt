@@ -22,7 +22,7 @@ use Rattle.controller.specs.Check.{awaits, check_state}
 use Rattle.controller.specs.Event.{ram_after, icons_after}
 use Rattle.controller.specs.Command.{acted}
 use Rattle.controller.specs.Byte.{byte_taken}
-use Rattle.controller.specs.Bits.{with_bits, performed, quiet, edge}
+use Rattle.controller.specs.Bits.{with_bits, performed, edge}
 use Rattle.controller.proofs.Checks.{called_check}
 use Rattle.controller.proofs.Registers.{nop_acted}
 use Rattle.controller.proofs.Bytes.{byte_valid}

@@ -1,7 +1,4 @@
-use Prim.Native.Nat.{◌*◌, ◌^◌}
 use native.Mathlib.Omega.{arith}
-use borrow.Author.Tests.{ltb-true}
-use Rattle.clock.specs.Time.{raw}
 use Rattle.clock.proofs.Rates.{lcd_bounds}
 use Rattle.clock.proofs.position.position_of.Goals as goal
 

@@ -1,6 +1,5 @@
-use Prim.Native.Nat.{◌+◌, ◌*◌, ◌/◌, ◌%◌, ◌^◌}
 use native.Mathlib.Omega.{arith}
-use Rattle.clock.proofs.Words.{digit_lt, digit_fits, long_division}
+use Rattle.clock.proofs.Words.{long_division}
 use Rattle.clock.proofs.wide.div.Goals as goal
 
 pub returns : goal.returns

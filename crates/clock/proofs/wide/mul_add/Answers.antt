@@ -1,6 +1,6 @@
-use Prim.Native.Nat.{◌+◌, ◌*◌, ◌/◌, ◌%◌, ◌^◌}
+use Prim.Native.Nat.{◌+◌, ◌*◌}
 use native.Mathlib.Omega.{arith}
-use Rattle.clock.proofs.Words.{words, half_product, columns, low_column_le, middle_column_le}
+use Rattle.clock.proofs.Words.{words, columns}
 use Rattle.clock.proofs.wide.mul_add.Goals as goal
 
 pub returns : goal.returns

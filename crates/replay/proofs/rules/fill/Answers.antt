@@ -1,4 +1,4 @@
-use Rattle.std.proofs.Common.{ℕ, ◌+◌, ◌-◌, ◌%◌, sym, refl, ap, ◌∙◌, arith, length-set, rules}
+use Rattle.std.proofs.Common.{ℕ, ◌+◌, ◌%◌, sym, refl, ap, ◌∙◌, arith, length-set, rules}
 use Rattle.replay.specs.Rules.{filled_to, filled}
 use Rattle.replay.proofs.Laws.{byte_next, filled_next}
 use Rattle.replay.proofs.rules.fill.Goals as goal

@@ -1,4 +1,4 @@
-use Rattle.std.proofs.Common.{ℕ, ◌-◌, refl, ap, ◌∙◌, arith, rules}
+use Rattle.std.proofs.Common.{ℕ, refl, ap, ◌∙◌, arith, rules}
 use Rattle.replay.specs.Rules.{sum_to, sum_of}
 use Rattle.replay.proofs.Laws.{sum_next}
 use Rattle.replay.proofs.rules.sum_of.Goals as goal

@@ -1,4 +1,4 @@
-use Rattle.std.proofs.Common.{ℕ, ◌-◌, refl, ap, ◌∙◌, arith, rules}
+use Rattle.std.proofs.Common.{ℕ, refl, ap, ◌∙◌, arith, rules}
 use Rattle.replay.specs.Rules.{sum_to_word, sum_of_words}
 use Rattle.replay.proofs.Laws.{sum_next_word}
 use Rattle.replay.proofs.rules.sum_of_words.Goals as goal

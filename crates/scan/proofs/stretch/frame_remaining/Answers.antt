@@ -1,4 +1,4 @@
-use Rattle.std.proofs.Common.{◌-◌, arith}
+use Rattle.std.proofs.Common.{arith}
 use Rattle.scan.specs.Run.{stopped}
 use Rattle.scan.specs.State.{rows, with_ticking}
 use Rattle.scan.proofs.Checks.{counters_in_range}

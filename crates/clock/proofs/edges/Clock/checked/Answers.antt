@@ -1,4 +1,4 @@
-use Rattle.checks.proofs.Tests.{failed, passed, test_false, test_true}
+use Rattle.checks.proofs.Tests.{test_false, test_true}
 use Rattle.clock.specs.Check.{check_clock}
 use Rattle.clock.proofs.edges.Clock.checked.Goals as goal
 

@@ -1,7 +1,7 @@
 use mathlib.Core.Path.{sym, ◌∙◌}
 use native.Mathlib.Omega.{arith}
-use borrow.Author.Tests.{ltb-true, ltb-false}
-use Rattle.clock.proofs.Positions.{value_words, span_high_lt, edge_count}
+use borrow.Author.Tests.{ltb-false}
+use Rattle.clock.proofs.Positions.{value_words, edge_count}
 use Rattle.clock.proofs.Checks.{valid}
 use Rattle.clock.proofs.Laws.{edges_formula}
 use Rattle.clock.specs.Position.{position}

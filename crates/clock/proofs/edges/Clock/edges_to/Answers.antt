@@ -1,5 +1,5 @@
 use mathlib.Core.Path.{sym, ◌∙◌, ap}
-use Rattle.checks.proofs.Tests.{failed, passed, test_false, test_true}
+use Rattle.checks.proofs.Tests.{test_false, test_true}
 use Rattle.clock.specs.Check.{refused}
 use Rattle.clock.specs.Edges.{count_edges}
 use Rattle.clock.proofs.Answers.{check_valid}

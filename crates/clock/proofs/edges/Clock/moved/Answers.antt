@@ -2,7 +2,7 @@ use Prim.Native.Nat.{◌*◌, ◌^◌}
 use mathlib.Core.Path.{sym, ◌∙◌, ap}
 use native.Mathlib.Omega.{arith}
 use borrow.Author.Tests.{le-ltb}
-use Rattle.checks.proofs.Tests.{failed, passed, test_false, test_true}
+use Rattle.checks.proofs.Tests.{test_false, test_true}
 use Rattle.clock.specs.declared.edges.Clock.{Clock}
 use Rattle.clock.specs.Time.{in_range, raw}
 use Rattle.clock.specs.Position.{position, position_after}

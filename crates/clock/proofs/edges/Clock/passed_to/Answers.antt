@@ -1,6 +1,6 @@
 use mathlib.Core.Path.{sym, ◌∙◌, ap}
 use native.Mathlib.Nat.{le_trans, min-le_left}
-use Rattle.checks.proofs.Tests.{failed, passed, test_false, test_true}
+use Rattle.checks.proofs.Tests.{test_false, test_true}
 use Rattle.clock.specs.Check.{refused}
 use Rattle.clock.specs.Edges.{pass_edges}
 use Rattle.clock.proofs.Answers.{check_valid}

@@ -3,8 +3,8 @@ use mathlib.Core.Bool.{◌&&◌}
 use mathlib.Core.Path.{refl, sym, ◌∙◌}
 use native.Mathlib.Omega.{arith}
 use native.Mathlib.Nat.{mul-le-mul}
-use borrow.Author.Tests.{not-false, ltb-true}
-use Rattle.checks.proofs.Tests.{both, failed, passed, test_false, test_true}
+use borrow.Author.Tests.{ltb-true}
+use Rattle.checks.proofs.Tests.{both, test_false, test_true}
 use Rattle.clock.specs.Position.{position}
 use Rattle.clock.specs.Check.{valid_clock}
 use Rattle.clock.specs.Time.{raw}
