@@ -1,7 +1,7 @@
 /* A proved model of the Novatek NT7508 display controller, for C99 and C++.
  *
  * `oracle/library` writes target/staticlib/libffi.a, which holds every function below and needs
- * memcpy and memset alone (x86-64, System V). docs/RULES.md has the rules of the controller;
+ * memcpy and memset alone (x86-64-v2, System V). docs/RULES.md has the rules of the controller;
  * crates/ffi/src holds the functions, each with its contract.
  *
  * What every function has in common:
