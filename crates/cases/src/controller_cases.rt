@@ -21,20 +21,17 @@ use ffi::look_words::{
     nt7508_controller_deadline, nt7508_controller_drive, nt7508_controller_find_setting,
     nt7508_controller_render, nt7508_controller_serial_effect_edges, nt7508_controller_voltages,
 };
-use replay::{added, fill, sum_of, sum_of_words, widened};
+use replay::{Replayed, added, fill, sum_of, sum_of_words};
 
 // The number of a call, and the sum of what it gives.
-#[derive(Clone, Copy)]
+#[derive(Clone, Copy, PartialEq)]
 struct Given {
     number: u64,
     sum: u64,
 }
 
 fn refused(number: u64) -> Given {
-    Given {
-        number: number,
-        sum: 0,
-    }
+    Given { number, sum: 0 }
 }
 
 // A call that gives words, unless it is refused.
@@ -48,10 +45,6 @@ fn gives(number: u64, words: &[u64]) -> Given {
     }
 }
 
-fn gives_event(number: u64, event: &[u64; 8]) -> Given {
-    gives(number, event)
-}
-
 fn rising(
     w: &[u64; 108],
     block: &mut [u64; 75],
@@ -60,7 +53,7 @@ fn rising(
 ) -> Given {
     let mut event = [0u64; 8];
     let number = nt7508_controller_rising(block, w[1] != 0, w[3], w[4], ram, icons, &mut event);
-    gives_event(number, &event)
+    gives(number, &event)
 }
 
 fn shift_in(
@@ -80,7 +73,7 @@ fn shift_in(
         icons,
         &mut event,
     );
-    gives_event(number, &event)
+    gives(number, &event)
 }
 
 // Calls that change the state alone, and give nothing.
@@ -110,14 +103,7 @@ fn changed_all(
 fn update(w: &[u64; 108], block: &mut [u64; 75]) -> Given {
     let mut pieces = 0;
     let number = nt7508_controller_update(block, w[3], w[4], &mut pieces);
-    gives(number, &[widened(pieces)])
-}
-
-fn driven(drive: &[u64; 12], frame: u16) -> Given {
-    Given {
-        number: 0,
-        sum: added(added(sum_of_words(drive), 0), frame as u64),
-    }
+    gives(number, &[u64::from(pieces)])
 }
 
 fn drive(w: &[u64; 108], block: &[u64; 75], ram: &[u8; 4096], icons: &[u8; 256]) -> Given {
@@ -127,7 +113,10 @@ fn drive(w: &[u64; 108], block: &[u64; 75], ram: &[u8; 4096], icons: &[u8; 256])
     if number != 0 {
         return refused(number);
     }
-    driven(&out, frame)
+    Given {
+        number: 0,
+        sum: added(added(sum_of_words(&out), 0), u64::from(frame)),
+    }
 }
 
 fn render(block: &[u64; 75], ram: &[u8; 4096], icons: &[u8; 256]) -> Given {
@@ -142,30 +131,22 @@ fn render(block: &[u64; 75], ram: &[u8; 4096], icons: &[u8; 256]) -> Given {
     }
 }
 
-fn gives_voltages(number: u64, voltages: &[u64; 7]) -> Given {
-    gives(number, voltages)
-}
-
 fn voltages(block: &[u64; 75]) -> Given {
     let mut out = [0u64; 7];
     let number = nt7508_controller_voltages(block, &mut out);
-    gives_voltages(number, &out)
+    gives(number, &out)
 }
 
 fn edges(w: &[u64; 108], block: &[u64; 75]) -> Given {
     let mut out = 0;
     let number = nt7508_controller_serial_effect_edges(block, w[1] != 0, &mut out);
-    gives(number, &[widened(out)])
-}
-
-fn gives_deadline(number: u64, deadline: &[u64; 3]) -> Given {
-    gives(number, deadline)
+    gives(number, &[u64::from(out)])
 }
 
 fn deadline(block: &[u64; 75]) -> Given {
     let mut out = [0u64; 3];
     let number = nt7508_controller_deadline(block, &mut out);
-    gives_deadline(number, &out)
+    gives(number, &out)
 }
 
 // Which pair it is, is open.
@@ -207,16 +188,9 @@ fn called(
     }
 }
 
-// The words that a line starts with.
-fn take(line: &[u64; 108], out: &mut [u64; 75]) {
-    for i in 0..75 {
-        out[i] = line[i];
-    }
-}
-
 // The state and the memory in which a list starts.
 fn begin(w: &[u64; 108], block: &mut [u64; 75], ram: &mut [u8; 4096], icons: &mut [u8; 256]) {
-    take(w, block);
+    block.copy_from_slice(&w[..75]);
     fill(w[75], w[76], ram);
     fill(w[75], w[76] % 251 + 1, icons);
 }
@@ -227,28 +201,46 @@ fn call_agrees(
     ram: &mut [u8; 4096],
     icons: &mut [u8; 256],
 ) -> bool {
-    let given = called(w, block, ram, icons);
-    (given.number == w[5])
-        & (given.sum == w[6])
+    let given = Given {
+        number: w[5],
+        sum: w[6],
+    };
+    (called(w, block, ram, icons) == given)
         & (sum_of_words(block) == w[7])
         & (sum_of(ram) == w[8])
         & (sum_of(icons) == w[9])
 }
 
-// Whether ours answers as a line of a kind says, on what the line before left.
-pub(crate) fn agrees(
+// Whether ours answers as a line of a kind says.
+fn agrees(
     kind: u64,
     w: &[u64; 108],
     block: &mut [u64; 75],
     ram: &mut [u8; 4096],
     icons: &mut [u8; 256],
 ) -> bool {
-    if kind == 7 {
-        begin(w, block, ram, icons);
-        return true;
+    match kind {
+        7 => {
+            begin(w, block, ram, icons);
+            true
+        }
+        8 => call_agrees(w, block, ram, icons),
+        _ => false,
     }
-    if kind == 8 {
-        return call_agrees(w, block, ram, icons);
-    }
-    false
+}
+
+// Replays the line at a place, if it holds a case, on what the line before left.
+pub(crate) fn line_at(
+    list: &[u8],
+    at: usize,
+    block: &mut [u64; 75],
+    ram: &mut [u8; 4096],
+    icons: &mut [u8; 256],
+) -> Option<Replayed> {
+    let mut w = [0u64; 108];
+    let case = replay::case_at(list, at, &mut w)?;
+    Some(Replayed {
+        next: case.next,
+        agrees: agrees(case.kind, &w, block, ram, icons),
+    })
 }

@@ -8,85 +8,16 @@
 mod controller_cases;
 mod session_cases;
 
-use replay::{Case, Tally};
-use std::rt::Files;
-use std::{fs, io};
+use replay::replay_file;
+use std::io;
 
-// A case: the place behind it, and whether ours answers as it says.
-#[derive(Clone, Copy)]
-enum Replayed {
-    Case { next: usize, agrees: bool },
-    None,
-}
-
-// Replays the line at a place, on what the line before left.
-fn line_at(
-    list: &[u8],
-    at: usize,
-    block: &mut [u64; 75],
-    ram: &mut [u8; 4096],
-    icons: &mut [u8; 256],
-) -> Replayed {
-    let mut w = [0u64; 108];
-    let case = replay::case_at(list, at, &mut w);
-    let Case::Of { kind, next } = case else {
-        return Replayed::None;
-    };
-    Replayed::Case {
-        next: next,
-        agrees: controller_cases::agrees(kind, &w, block, ram, icons),
-    }
-}
-
-fn name(rt: &impl Print, what: &str, number: usize) -> io::Result<()> {
-    let number = number.wrapping_add(1);
-    println!(rt; "{what}: number {number}")
-}
-
-fn count(
-    rt: &impl Print,
-    list: &[u8],
-    tally: Tally,
-    number: usize,
-    replayed: Replayed,
-) -> io::Result<Tally> {
-    let Replayed::Case { next, agrees } = replayed else {
-        name(rt, "no case", number)?;
-        return Ok(tally.ended(list.len()));
-    };
-    if !agrees {
-        name(rt, "differs", number)?;
-    }
-    Ok(tally.counted(next, agrees))
-}
-
-// Replays a list, of sessions or of lines. Each has at least a byte, so there are no more than bytes.
-fn replay_list(rt: &impl Print, list: &[u8], sessions: bool) -> io::Result<Tally> {
+fn main(rt: HostRuntime) -> io::Result<()> {
     let mut block = [0u64; 75];
     let mut ram = [0u8; 4096];
     let mut icons = [0u8; 256];
-    let mut tally = Tally::new();
-    for number in 0..list.len() {
-        if tally.at < list.len() {
-            let replayed = if sessions {
-                session_cases::session_at(list, tally.at)
-            } else {
-                line_at(list, tally.at, &mut block, &mut ram, &mut icons)
-            };
-            tally = count(rt, list, tally, number, replayed)?;
-        }
-    }
-    Ok(tally)
-}
-
-// Replays the list of a file.
-fn replay_file(rt: &(impl Files + Print + Alloc), path: &str, sessions: bool) -> io::Result<()> {
-    let list = fs::read(rt, path)?;
-    let tally = replay_list(rt, &list, sessions)?;
-    println!(rt; "{} cases, {} differ", tally.cases, tally.differ)
-}
-
-fn main(rt: HostRuntime) -> io::Result<()> {
-    replay_file(&rt, "controller", false)?;
-    replay_file(&rt, "session", true)
+    // A line is replayed on what the line before left.
+    replay_file(&rt, "controller", "number", |list, at| {
+        controller_cases::line_at(list, at, &mut block, &mut ram, &mut icons)
+    })?;
+    replay_file(&rt, "session", "number", session_cases::session_at)
 }

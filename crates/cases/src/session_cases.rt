@@ -2,31 +2,8 @@
 // listing that the session program over the original prints. The numbers:
 //   how many bytes the text has, and the listing; the number and the line of the refusal, or 0 0; the sums
 //   of the block, of RAM and of icons after it, which are made as in kind 8 (controller_cases.rt)
-use crate::Replayed;
-use decimal::Line;
 use ffi::session_words::nt7508_session;
-use replay::{sum_of, sum_of_words};
-
-// Whether some bytes begin with others.
-fn begins(bytes: &[u8], with: &[u8]) -> bool {
-    for i in 0..with.len() {
-        if bytes.len() <= i {
-            return false;
-        }
-        if bytes[i] != with[i] {
-            return false;
-        }
-    }
-    true
-}
-
-fn starts(out: &[u8; 589824], listing: &[u8]) -> bool {
-    begins(out, listing)
-}
-
-fn sums_agree(w: &[u64; 7], block: &[u64; 75], ram: &[u8; 4096], icons: &[u8; 256]) -> bool {
-    (sum_of_words(block) == w[4]) & (sum_of(ram) == w[5]) & (sum_of(icons) == w[6])
-}
+use replay::{Replayed, sum_of, sum_of_words};
 
 // Runs a text on lent memory, and answers whether it goes as the numbers and the listing say.
 fn runs(
@@ -43,12 +20,14 @@ fn runs(
     (number == w[2])
         & (ended[1] == w[3])
         & (ended[0] == listing.len() as u64)
-        & starts(out, listing)
-        & sums_agree(w, block, ram, icons)
+        & out.starts_with(listing)
+        & (sum_of_words(block) == w[4])
+        & (sum_of(ram) == w[5])
+        & (sum_of(icons) == w[6])
 }
 
-// Whether ours runs a text so. (The arrays are parameters of `runs`, since their lengths are then known from
-// their types and not computed.)
+// Whether ours runs a text so. (The arrays are parameters of `runs`: with them in the same function its
+// proof did not end, since their lengths are then computed and not known from their types.)
 fn agrees(w: &[u64; 7], text: &[u8], listing: &[u8]) -> bool {
     let mut block = [0u64; 75];
     let mut ram = [0u8; 4096];
@@ -57,33 +36,16 @@ fn agrees(w: &[u64; 7], text: &[u8], listing: &[u8]) -> bool {
     runs(w, text, listing, &mut block, &mut ram, &mut icons, &mut out)
 }
 
-// The session whose line ends at a place.
-fn run_behind(w: &[u64; 7], list: &[u8], at: usize) -> Replayed {
-    if list.len() < at {
-        return Replayed::None;
-    }
-    let text_bytes = w[0] as usize;
-    if list.len() - at < text_bytes {
-        return Replayed::None;
-    }
-    let middle = at + text_bytes;
-    let listing_bytes = w[1] as usize;
-    if list.len() - middle < listing_bytes {
-        return Replayed::None;
-    }
-    let next = middle + listing_bytes;
-    Replayed::Case {
-        next: next,
-        agrees: agrees(w, &list[at..middle], &list[middle..next]),
-    }
-}
-
-// Runs the session at a place of the list.
-pub(crate) fn session_at(list: &[u8], at: usize) -> Replayed {
+// Runs the session at a place of the list, if there is one.
+pub(crate) fn session_at(list: &[u8], at: usize) -> Option<Replayed> {
     let mut w = [0u64; 7];
-    let line = decimal::read_line(list, at, &mut w);
-    let Line::Ended(end) = line else {
-        return Replayed::None;
-    };
-    run_behind(&w, list, end)
+    let start = decimal::read_line(list, at, &mut w)?;
+    let middle = start.checked_add(w[0] as usize)?;
+    let next = middle.checked_add(w[1] as usize)?;
+    let text = list.get(start..middle)?;
+    let listing = list.get(middle..next)?;
+    Some(Replayed {
+        next,
+        agrees: agrees(&w, text, listing),
+    })
 }

@@ -3,7 +3,7 @@ use Prim.Native.Nat.{◌*◌, ◌<◌, ◌≤◌}
 use mathlib.Core.Bool.{true}
 use mathlib.Core.Path.{◌≡◌}
 use borrow.Author.Tests.{lt-ltb, ltb-true, le-leb, leb-true}
-use Rattle.checks.proofs.Tests.{both}
+use Rattle.std.proofs.lemmas.Bool.{and_parts}
 use Rattle.clock.specs.declared.rate.Rate.{Rate}
 use Rattle.clock.specs.declared.edges.Clock.{Clock}
 use Rattle.clock.specs.Time.{in_range}
@@ -19,9 +19,9 @@ pub record Valid (c : Clock) (r : Rate) : Type 0 where
 pub valid : (c : Clock) (r : Rate) → valid_clock c r ≡ true → Valid c r
 unfolding valid_clock
 valid c r h =
-    let a = both _ _ h in
-    let b = both _ _ a.0 in
-    let d = both _ _ b.0 in
+    let a = and_parts _ _ h in
+    let b = and_parts _ _ a.0 in
+    let d = and_parts _ _ b.0 in
     record { of_rate = d.0; fraction_lt = ltb-true _ _ d.1; in_range_lem = b.1; ordinal_le = leb-true _ _ a.1 }
 
 pub valid_test : (c : Clock) (r : Rate) → Valid c r → valid_clock c r ≡ true

@@ -8,15 +8,17 @@ use native.Mathlib.Nat.{lt_of_not-le, div-add-mod', mod-lt, mul-le-mul, le-div_i
 use lib.Arith.{digits_div, digits_mod}
 use lib.Dec.{leb, ltb, eqb}
 use borrow.Author.Tests.{eq-eqb, eqb-true, lt-leb, lt-ltb, ltb-true}
-use Rattle.checks.proofs.Tests.{both, same, leb_same}
+use Rattle.std.proofs.lemmas.Bool.{and_parts}
+use Rattle.checks.proofs.Tests.{same, leb_same}
 use Rattle.clock.specs.declared.rate.Rate.{Rate}
 use Rattle.clock.specs.declared.edges.Clock.{Clock}
 use Rattle.clock.specs.Wide.{value, wide_of}
 use Rattle.clock.specs.Time.{raw}
 use Rattle.clock.specs.Position.{period, position}
-use Rattle.clock.specs.Check.{is_of_rate}
-use Rattle.clock.proofs.Rates.{Bounds}
-use Rattle.clock.proofs.Checks.{Valid}
+use Rattle.clock.specs.Rate.{is_lcd}
+use Rattle.clock.specs.Check.{is_of_rate, valid_clock}
+use Rattle.clock.proofs.Rates.{Bounds, lcd_bounds}
+use Rattle.clock.proofs.Checks.{Valid, valid}
 
 pub value_words : (n : ℕ) → value (wide_of n) ≡ n
 value_words n = div-add-mod' n (2 ^ 64)
@@ -29,7 +31,7 @@ by_product w s p k h =
     let z : w * p + s ≡ k = eqb-true _ _ e in
     simp (eq-eqb w (k / p) (sym (ap (λ (n : ℕ). n / p) (sym z) ∙ digits_div w h)), eq-eqb s (k % p) (sym (ap (λ (n : ℕ). n % p) (sym z) ∙ digits_mod w h))))
     (λ e.
-    let z = both (eqb w (k / p)) (eqb s (k % p)) e in
+    let z = and_parts (eqb w (k / p)) (eqb s (k % p)) e in
     eq-eqb (w * p + s) k (rw (eqb-true w (k / p) z.0, eqb-true s (k % p) z.1) (div-add-mod' k p)))
 
 -- whether a clock is of the rate
@@ -38,8 +40,8 @@ module _ (c : Clock) (r : Rate) (b : Bounds r) where
   pub of_rate_small : is_of_rate c r ≡ true → eqb c.denominator r.numerator && ltb c.remainder r.numerator && eqb c.whole.high 0 ≡ true
   unfolding is_of_rate
   of_rate_small h =
-      let z = both (eqb c.denominator r.numerator && eqb (value c.whole) (period r / r.numerator)) (eqb c.remainder (period r % r.numerator)) h in
-      let y = both (eqb c.denominator r.numerator) (eqb (value c.whole) (period r / r.numerator)) z.0 in
+      let z = and_parts (eqb c.denominator r.numerator && eqb (value c.whole) (period r / r.numerator)) (eqb c.remainder (period r % r.numerator)) h in
+      let y = and_parts (eqb c.denominator r.numerator) (eqb (value c.whole) (period r / r.numerator)) z.0 in
       let whole = eqb-true (value c.whole) (period r / r.numerator) y.1 in
       let rest = eqb-true c.remainder (period r % r.numerator) z.1 in
       let m = mod-lt (period r) {m = r.numerator} (omega (arith, b.low)) in
@@ -53,8 +55,8 @@ module _ (c : Clock) (r : Rate) (b : Bounds r) where
   -- the period's parts
   pub of_rate_period : is_of_rate c r ≡ true → (value c.whole * r.numerator + c.remainder ≡ period r) × ((c.remainder < r.numerator) × (c.whole.high ≡ 0))
   of_rate_period h =
-      let small = both _ _ (of_rate_small h) in
-      let rest = both (eqb c.denominator r.numerator) _ small.0 in
+      let small = and_parts _ _ (of_rate_small h) in
+      let rest = and_parts (eqb c.denominator r.numerator) _ small.0 in
       let below = ltb-true c.remainder r.numerator rest.1 in
       (eqb-true _ _ (of_rate_by_product rest.0 below ∙ h), (below, eqb-true c.whole.high 0 small.1))
 
@@ -103,24 +105,24 @@ module _ (a f n w s p k : ℕ) (pos : 0 < p) (period_parts : w * p + s ≡ k) wh
 
 -- few edges: their parts fit a word, and the whole units of them fit a half
 module _ (f n s p : ℕ) (f_lt : f < p) (s_lt : s < p) (few : n < 2 ^ 32) where
-  pub parts_lt : f + n * s < 2 ^ 32 * p
+  parts_lt : f + n * s < 2 ^ 32 * p
   parts_lt = omega (arith, mul-le-mul {n₁ = n} {m₁ = s} {n₂ = 2 ^ 32 - 1} {m₂ = p - 1} (omega arith) (omega arith))
 
-  pub units_lt : (f + n * s) / p < 2 ^ 32
+  units_lt : (f + n * s) / p < 2 ^ 32
   units_lt = (div-lt_iff_lt-mul {k = p} {x = f + n * s} {y = 2 ^ 32} (omega arith)).1 parts_lt
 
 -- the high word of their span has room beside the seconds of a time in range
 span_lt : (w n u : ℕ) → w < 2 ^ 64 → n < 2 ^ 32 → u < 2 ^ 32 → w * n + u < 2 ^ 33 * 2 ^ 64
 span_lt w n u hw hn hu = omega (arith, mul-le-mul {n₁ = w} {m₁ = n} {n₂ = 2 ^ 64} {m₂ = 2 ^ 32} (omega arith) (omega arith))
 
-pub few_room : (s w n u : ℕ) → s < 2 ^ 32 → w < 2 ^ 64 → n < 2 ^ 32 → u < 2 ^ 32 → s + (w * n + u) / 2 ^ 64 < 2 ^ 63
+few_room : (s w n u : ℕ) → s < 2 ^ 32 → w < 2 ^ 64 → n < 2 ^ 32 → u < 2 ^ 32 → s + (w * n + u) / 2 ^ 64 < 2 ^ 63
 few_room s w n u hs hw hn hu = room ((w * n + u) / 2 ^ 64) ((div-lt_iff_lt-mul {k = 2 ^ 64} {x = w * n + u} {y = 2 ^ 33} (omega arith)).1 (span_lt w n u hw hn hu))
   where
     room : (k : ℕ) → k < 2 ^ 33 → s + k < 2 ^ 63
     room k h = omega arith
 
 -- the whole units of a period below 2^64 parts
-pub whole_lt : (w p m n : ℕ) → w * p + m ≡ n → n < 2 ^ 64 * p → w < 2 ^ 64
+whole_lt : (w p m n : ℕ) → w * p + m ≡ n → n < 2 ^ 64 * p → w < 2 ^ 64
 whole_lt w p m n e h =
     lt_of_not-le {n = 2 ^ 64} {m = w} (λ k. omega (arith, mul-le-mul {n₁ = 2 ^ 64} {m₁ = p} {n₂ = w} {m₂ = p} k (omega arith)))
 
@@ -149,3 +151,33 @@ module _ (c : Clock) (r : Rate) (b : Bounds r) (v : Valid c r) where
       let h = high_lt in
       let q = mul-le-mul {n₁ = c.ordinal} {m₁ = 1} {n₂ = c.ordinal} {m₂ = r.denominator} (omega arith) b.denominator_low in
       omega (arith, v.ordinal_le)
+
+-- a valid clock at an LCD rate, moved by few edges: what the words of the move have room for
+pub record Few (c : Clock) (r : Rate) (n : ℕ) : Type 0 where
+  pub parts_lt : c.fraction + n * c.remainder < 2 ^ 32 * r.numerator
+  pub units_lt : (c.fraction + n * c.remainder) / r.numerator < 2 ^ 32
+  pub whole_high : c.whole.high ≡ 0
+  pub room : c.at.seconds + (value c.whole * n + (c.fraction + n * c.remainder) / r.numerator) / 2 ^ 64 < 2 ^ 63
+  pub ordinal_lt : c.ordinal < 2 ^ 50
+  pub numerator_low : 16128 ≤ r.numerator
+  pub numerator_high : r.numerator ≤ 184000
+  pub period_parts : value c.whole * r.numerator + c.remainder ≡ period r
+
+pub few : (c : Clock) (r : Rate) (n : ℕ) → is_lcd r ≡ true → valid_clock c r ≡ true → n < 2 ^ 32 → Few c r n
+few c r n l v h =
+    let b = lcd_bounds r l in
+    let k = valid c r v in
+    let parts = of_rate_period c r b k.of_rate in
+    let units = units_lt c.fraction n c.remainder r.numerator k.fraction_lt parts.1.0 h in
+    let seconds : c.at.seconds < 2 ^ 32 = omega (arith, ltb-true (raw c.at) (2 ^ 32 * 2 ^ 64) k.in_range_lem) in
+    let whole = whole_lt (value c.whole) r.numerator c.remainder (period r) parts.0 (omega (arith, b.low, b.denominator_high)) in
+    record {
+      parts_lt = parts_lt c.fraction n c.remainder r.numerator k.fraction_lt parts.1.0 h;
+      units_lt = units;
+      whole_high = parts.1.1;
+      room = few_room c.at.seconds (value c.whole) n _ seconds whole h units;
+      ordinal_lt = ordinal_lt c r b k;
+      numerator_low = b.low;
+      numerator_high = b.high;
+      period_parts = parts.0;
+    }

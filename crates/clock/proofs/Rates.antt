@@ -9,7 +9,7 @@ use lib.Dec.{eqb}
 use borrow.Author.Tests.{leb-true, eqb-true, le-leb, eq-eqb}
 use Rattle.clock.specs.declared.rate.Rate.{Rate}
 use Rattle.clock.specs.Rate.{oscillator_rate, lcd_rate, same_rate, by_rows, is_oscillator_rate, by_oscillator, is_lcd}
-use Rattle.checks.proofs.Tests.{both, either}
+use Rattle.std.proofs.lemmas.Bool.{and_parts, or_cases}
 
 -- what two-word arithmetic asks of a rate
 pub record Bounds (r : Rate) : Type 0 where
@@ -37,18 +37,18 @@ one_of_range p (inr (inr (inl e))) = omega arith
 one_of_range p (inr (inr (inr e))) = omega arith
 
 pub one_of : (p : ℕ) → is_oscillator_rate p ≡ true → OneOf p
-one_of p h = last (either (eqb p 92000 || eqb p 122000 || eqb p 147000) (eqb p 184000) h)
+one_of p h = last (or_cases (eqb p 92000 || eqb p 122000 || eqb p 147000) (eqb p 184000) h)
   where
     first : (eqb p 92000 ≡ true) ⊎ (eqb p 122000 ≡ true) → OneOf p
     first (inl e) = inl (eqb-true p 92000 e)
     first (inr e) = inr (inl (eqb-true p 122000 e))
 
     middle : (eqb p 92000 || eqb p 122000 ≡ true) ⊎ (eqb p 147000 ≡ true) → OneOf p
-    middle (inl h) = first (either (eqb p 92000) (eqb p 122000) h)
+    middle (inl h) = first (or_cases (eqb p 92000) (eqb p 122000) h)
     middle (inr e) = inr (inr (inl (eqb-true p 147000 e)))
 
     last : (eqb p 92000 || eqb p 122000 || eqb p 147000 ≡ true) ⊎ (eqb p 184000 ≡ true) → OneOf p
-    last (inl h) = middle (either (eqb p 92000 || eqb p 122000) (eqb p 147000) h)
+    last (inl h) = middle (or_cases (eqb p 92000 || eqb p 122000) (eqb p 147000) h)
     last (inr e) = inr (inr (inr (eqb-true p 184000 e)))
 
 -- what the two kinds of LCD rates are
@@ -66,15 +66,15 @@ record ByOscillator (r : Rate) : Type 0 where
 module _ (r : Rate) where
   by_rows_lem : by_rows r ≡ true → ByRows r
   by_rows_lem h =
-      let a = both _ _ h in
-      let b = both _ _ a.0 in
-      let d = both _ _ b.0 in
+      let a = and_parts _ _ h in
+      let b = and_parts _ _ a.0 in
+      let d = and_parts _ _ b.0 in
       record { over_one = eqb-true _ _ d.0; whole = eqb-true _ _ d.1; rows_low = leb-true _ _ b.1; rows_high = leb-true _ _ a.1 }
 
   by_oscillator_lem : by_oscillator r ≡ true → ByOscillator r
   by_oscillator_lem h =
-      let a = both _ _ h in
-      let b = both _ _ a.0 in
+      let a = and_parts _ _ h in
+      let b = and_parts _ _ a.0 in
       record { rate = one_of r.numerator b.0; over_low = leb-true _ _ b.1; over_high = leb-true _ _ a.1 }
 
   rows_bounds : by_rows r ≡ true → Bounds r
@@ -90,7 +90,7 @@ module _ (r : Rate) where
 
   pub lcd_bounds : is_lcd r ≡ true → Bounds r
   unfolding is_lcd
-  lcd_bounds h = ⊎_elim rows_bounds oscillator_bounds (either (by_rows r) (by_oscillator r) h)
+  lcd_bounds h = ⊎_elim rows_bounds oscillator_bounds (or_cases (by_rows r) (by_oscillator r) h)
 
 oscillates : (k : ℕ) → k < 4 → is_oscillator_rate (oscillator_rate k) ≡ true
 oscillates zero h = refl
@@ -166,13 +166,13 @@ module _ (r : Rate) where
 
   pub lcd_only : is_lcd r ≡ true → FromSetting r
   unfolding is_lcd
-  lcd_only h = ⊎_elim from_rows from_oscillator (either (by_rows r) (by_oscillator r) h)
+  lcd_only h = ⊎_elim from_rows from_oscillator (or_cases (by_rows r) (by_oscillator r) h)
 
 -- the comparison of rates
 pub same_rate_lem : (r t : Rate) → same_rate r t ≡ true → r ≡ t
 unfolding same_rate
 same_rate_lem r t h =
-    let b = both (eqb r.numerator t.numerator) _ h in
+    let b = and_parts (eqb r.numerator t.numerator) _ h in
     λ i. record { numerator = eqb-true r.numerator t.numerator b.0 i; denominator = eqb-true r.denominator t.denominator b.1 i }
 
 pub same_refl : (r : Rate) → same_rate r r ≡ true

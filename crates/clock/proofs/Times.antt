@@ -5,12 +5,12 @@ use mathlib.Core.Path.{◌≡◌, refl, sym, ◌∙◌, ap}
 use native.Mathlib.Nat.{le_trans, le-add_right, mul-le-mul_right}
 use native.Mathlib.Omega.{arith}
 use lib.Arith.{digits_div, digits_mod, digits_lt}
+use Rattle.std.specs.Prelude.{Some, None}
 use lib.Dec.{leb, ltb, eqb}
 use borrow.Author.Tests.{lt-ltb, le-ltb, le-leb, lt-leb, ne_eqb, ltb-true, ltb-false, eqb-true, eqb-false}
 use Rattle.checks.proofs.Tests.{ltb_same, leb_same, eqb_same}
 use Rattle.clock.specs.declared.time.Time.{Time}
 use Rattle.clock.specs.declared.time.Duration.{Duration}
-use Rattle.clock.specs.declared.time.Sum.TheVariants.{At, Overflow}
 use Rattle.clock.specs.Time.{raw, time_of, in_range, raw_duration, sum}
 
 -- a time is in range by its seconds
@@ -50,8 +50,8 @@ time_of_lem s b e = λ i. record {
 }
 
 module _ (t : Time) (d : Duration) (s f : ℕ) (parts : raw t + raw_duration d ≡ s * 2 ^ 64 + f) where
-  pub sum_at : s < 2 ^ 64 → f < 2 ^ 64 → At (record { seconds = s; fraction = f }) ≡ sum t d
-  sum_at a b = rw (lt-ltb (raw t + raw_duration d) (2 ^ 128) (rw parts (digits_lt a b))) (ap At (time_of_lem s b parts))
+  pub sum_at : s < 2 ^ 64 → f < 2 ^ 64 → Some (record { seconds = s; fraction = f }) ≡ sum t d
+  sum_at a b = rw (lt-ltb (raw t + raw_duration d) (2 ^ 128) (rw parts (digits_lt a b))) (ap Some (time_of_lem s b parts))
 
-  pub sum_past : 2 ^ 64 ≤ s → Overflow ≡ sum t d
+  pub sum_past : 2 ^ 64 ≤ s → None ≡ sum t d
   sum_past h = rw (le-ltb (raw t + raw_duration d) (2 ^ 128) (rw parts (le_trans (mul-le-mul_right (2 ^ 64) h) (le-add_right (s * 2 ^ 64) f))))

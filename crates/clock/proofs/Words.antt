@@ -7,7 +7,8 @@ use native.Mathlib.Nat.{div-add-mod', mod-lt, mul-le-mul, mul-add-div_right, mul
 use lib.Arith.{digits_div, digits_mod}
 use lib.Dec.{eqb}
 use borrow.Author.Tests.{eq-eqb, eqb-true}
-use Rattle.checks.proofs.Tests.{same, both}
+use Rattle.std.proofs.lemmas.Bool.{and_parts}
+use Rattle.checks.proofs.Tests.{same}
 use Rattle.clock.specs.Wide.{wide_of, quotient_of}
 
 -- a number's words, from its words
@@ -44,7 +45,7 @@ pub by_columns : (l m c q : ℕ) → eqb (middle_column 0 l m c) (q * 2 ^ 32) &&
 by_columns l m c q =
     let e : l * m + c ≡ middle_column 0 l m c * 2 ^ 32 + low_column 0 l m c % 2 ^ 32 = omega (arith, columns 0 l m c) in
     same _ _
-    (λ h. let z = both (eqb (middle_column 0 l m c) (q * 2 ^ 32)) _ h in eq-eqb (l * m + c) (q * 2 ^ 64) (omega (arith, eqb-true (middle_column 0 l m c) (q * 2 ^ 32) z.0, eqb-true (low_column 0 l m c % 2 ^ 32) 0 z.1)))
+    (λ h. let z = and_parts (eqb (middle_column 0 l m c) (q * 2 ^ 32)) _ h in eq-eqb (l * m + c) (q * 2 ^ 64) (omega (arith, eqb-true (middle_column 0 l m c) (q * 2 ^ 32) z.0, eqb-true (low_column 0 l m c % 2 ^ 32) 0 z.1)))
     (λ h. let z = eqb-true (l * m + c) (q * 2 ^ 64) h in simp (eq-eqb (middle_column 0 l m c) (q * 2 ^ 32) (omega arith), eq-eqb (low_column 0 l m c % 2 ^ 32) 0 (omega arith)))
 
 -- one digit of a long division

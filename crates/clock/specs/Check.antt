@@ -1,12 +1,10 @@
 -- Document 01, 'Where a call is turned down': the rows of its table that the clock's calls ask for.
-use Rattle.std.specs.Prelude.{ℕ, ◌*◌, ◌/◌, ◌%◌, Bool, ◌&&◌, leb, ltb, eqb}
-use Rattle.std.proofs.Math.Option.{Option, none, some}
-use Rattle.checks.specs.Checks.{row, first_of}
+use Rattle.std.specs.Prelude.{ℕ, ◌*◌, ◌/◌, ◌%◌, Bool, ◌&&◌, leb, ltb, eqb, Option, Result}
+use Rattle.checks.specs.Checks.{row, first_of, refused_by}
 use Rattle.clock.specs.declared.time.Time.{Time}
 use Rattle.clock.specs.declared.rate.Rate.{Rate}
 use Rattle.clock.specs.declared.edges.Clock.{Clock}
 use Rattle.clock.specs.declared.check.Refusal.{Refusal}
-use Rattle.clock.specs.declared.check.Check.{Check}
 use Rattle.clock.specs.Wide.{value}
 use Rattle.clock.specs.Time.{in_range}
 use Rattle.clock.specs.Rate.{is_lcd}
@@ -19,9 +17,8 @@ number Refusal.Rate = 4
 number Refusal.Clock = 5
 
 -- the answer of a check: none where it passes, or the number of its refusal
-abbrev pub refused : Check → Option ℕ
-refused Check.Passed = none
-refused (Check.Refused why) = some (number why)
+abbrev pub refused : {A : Type 0} → Result A Refusal → Option ℕ
+refused r = refused_by number r
 
 -- the clock of the rate
 unfoldable pub is_of_rate : Clock → Rate → Bool

@@ -1,14 +1,12 @@
 -- Document 01, 'Clock': edges at a rational rate, counted and passed.
-use Rattle.std.specs.Prelude.{ℕ, zero, suc, ◌+◌, ◌/◌, ◌%◌, min, cond, ◌⊎◌, leb}
+use Rattle.std.specs.Prelude.{ℕ, zero, suc, ◌+◌, ◌/◌, ◌%◌, min, cond, ◌⊎◌, leb, Option, Some, None, Result, Ok, Err}
 use Rattle.std.proofs.Common.{inl, inr}
-use Rattle.std.proofs.Math.Option.{Option, none, some}
-use Rattle.checks.specs.Checks.{first_of, answer}
+use Rattle.checks.specs.Checks.{first_of, answer, numbered}
 use Rattle.clock.specs.declared.time.Time.{Time}
 use Rattle.clock.specs.declared.rate.Rate.{Rate}
 use Rattle.clock.specs.declared.edges.Clock.{Clock}
-use Rattle.clock.specs.declared.edges.Made.{Made}
-use Rattle.clock.specs.declared.edges.Edges.{Edges}
 use Rattle.clock.specs.declared.edges.Passed.{Passed}
+use Rattle.clock.specs.declared.check.Refusal.{Refusal}
 use Rattle.clock.specs.Wide.{wide_of}
 use Rattle.clock.specs.Time.{raw, time_of}
 use Rattle.clock.specs.Position.{period, position_after}
@@ -52,17 +50,12 @@ unfoldable pub edges_to : Clock → Rate → Time → ℕ
 edges_to c r now = edges_among (raw now + 1) c r now
 
 -- the answers of the calls: the number of a refusal, or the value
-abbrev pub answered_clock : Made → ℕ ⊎ Clock
-answered_clock (Made.Clock c) = inr c
-answered_clock (Made.Refused why) = inl (number why)
+abbrev pub answered : {A : Type 0} → Result A Refusal → ℕ ⊎ A
+answered r = numbered number r
 
-abbrev pub answered_count : Edges → ℕ ⊎ ℕ
-answered_count (Edges.Count n) = inr n
-answered_count (Edges.Refused why) = inl (number why)
-
-abbrev pub answered_pass : Passed → ℕ ⊎ (ℕ × Clock)
-answered_pass (Passed.Edges n c) = inr (n, c)
-answered_pass (Passed.Refused why) = inl (number why)
+abbrev pub answered_pass : Result Passed Refusal → ℕ ⊎ (ℕ × Clock)
+answered_pass (Ok p) = inr (p.count, p.clock)
+answered_pass (Err why) = inl (number why)
 
 -- the calls, with their checks in the table's order
 unfoldable pub new_clock : Time → Rate → ℕ ⊎ Clock
@@ -77,8 +70,8 @@ move_clock c r n = answer (first_of (check_clock c r) (time_row (moved_by c r n)
 
 -- the number of the refusal, if any, and the clock that is left: the moved one, or, refused, the one given
 abbrev pub settled : Clock → ℕ ⊎ Clock → Option ℕ × Clock
-settled c (inl why) = (some why, c)
-settled c (inr moved) = (none, moved)
+settled c (inl why) = (Some why, c)
+settled c (inr moved) = (None, moved)
 
 -- the clock moved in place
 unfoldable pub advance_clock : Clock → Rate → ℕ → Option ℕ × Clock

@@ -1,10 +1,8 @@
 -- Document 01, 'Clock': time is whole seconds plus a 64-bit fraction of a second, microseconds become
 -- time rounded down. Number 1 of its table.
-use Rattle.std.specs.Prelude.{ℕ, ◌+◌, ◌*◌, ◌/◌, ◌%◌, ◌^◌, Bool, cond, ltb}
+use Rattle.std.specs.Prelude.{ℕ, ◌+◌, ◌*◌, ◌/◌, ◌%◌, ◌^◌, Bool, cond, ltb, Option, Some, None}
 use Rattle.clock.specs.declared.time.Time.{Time}
 use Rattle.clock.specs.declared.time.Duration.{Duration}
-use Rattle.clock.specs.declared.time.Sum.{Sum}
-use Rattle.clock.specs.declared.time.Sum.TheVariants.{At, Overflow}
 
 -- a time in fraction units, 2^-64 s each
 abbrev pub raw : Time → ℕ
@@ -32,5 +30,5 @@ abbrev pub in_range : Time → Bool
 in_range t = ltb (raw t) (2 ^ 32 * 2 ^ 64)
 
 -- a time later by a duration, while two words hold it
-abbrev pub sum : Time → Duration → Sum
-sum t d = cond (ltb (raw t + raw_duration d) (2 ^ 128)) (At (time_of (raw t + raw_duration d))) Overflow
+abbrev pub sum : Time → Duration → Option Time
+sum t d = cond (ltb (raw t + raw_duration d) (2 ^ 128)) (Some (time_of (raw t + raw_duration d))) None

@@ -1,53 +1,90 @@
 // The checks of a clock, in the order of document 01's table.
 ghost use Rattle.std.specs.Prelude.{◌≡◌, true};
 ghost use Rattle.clock.specs.Rate.{is_lcd};
-ghost use Rattle.clock.specs.Check.{refused, is_of_rate, valid_clock, check_clock};
+ghost use Rattle.clock.specs.Check.{number, refused, is_of_rate, valid_clock, time_row, rate_row, check_clock};
 
 use crate::edges::Clock;
 use crate::position::position_of;
 use crate::rate::Rate;
+use crate::time::Time;
 use crate::wide::product_is;
+use checks::Numbered;
 
-// Why a call is turned down: `number` of specs/Check.antt gives each its number.
-#[derive(Clone, Copy)]
+// Why a call is turned down.
+#[derive(Clone, Copy, Debug, PartialEq, Eq)]
 pub enum Refusal {
     Time,
     Rate,
     Clock,
 }
 
-#[derive(Clone, Copy)]
-pub enum Check {
-    Passed,
-    Refused(Refusal),
+impl Numbered for Refusal {
+    ghost number = { number };
+
+    fn number(self) -> u64 {
+        match self {
+            Refusal::Time => 1,
+            Refusal::Rate => 4,
+            Refusal::Clock => 5,
+        }
+    }
+}
+
+impl Time {
+    // Number 1.
+    pub(crate) fn check(self) -> Result<(), Refusal>
+        ensures { refused result ≡ time_row self }
+    {
+        if !self.in_range() {
+            return Err(Refusal::Time);
+        }
+        Ok(())
+    }
+}
+
+impl Rate {
+    // Number 4.
+    pub(crate) fn check(self) -> Result<(), Refusal>
+        ensures { refused result ≡ rate_row self }
+    {
+        if !self.is_lcd() {
+            return Err(Refusal::Rate);
+        }
+        Ok(())
+    }
 }
 
 impl Clock {
     // Whether period and denominator are the rate's: a product tells it without a division.
+    #[tactic(auto, using(crate::proofs::Rates::lcd_bounds))]
     fn is_of_rate(self, rate: Rate) -> bool
         requires { is_lcd rate ≡ true }
         ensures { result ≡ is_of_rate self rate }
     {
-        let whole = self.whole;
         if !((self.denominator == rate.numerator)
             & (self.remainder < rate.numerator)
-            & (whole.high == 0))
+            & (self.whole.high == 0))
         {
             return false;
         }
-        product_is(whole.low, rate.numerator, self.remainder, rate.denominator)
+        product_is(
+            self.whole.low,
+            rate.numerator,
+            self.remainder,
+            rate.denominator,
+        )
     }
 
     // Number 5.
+    #[tactic(auto, using(crate::proofs::Rates::lcd_bounds), unfolding(crate::specs::Check::valid_clock))]
     fn valid(self, rate: Rate) -> bool
         requires { is_lcd rate ≡ true }
         ensures { result ≡ valid_clock self rate }
     {
-        let at = self.at;
-        if !(self.is_of_rate(rate) & (self.fraction < rate.numerator) & at.in_range()) {
+        if !(self.is_of_rate(rate) & (self.fraction < rate.numerator) & self.at.in_range()) {
             return false;
         }
-        let position = position_of(at, self.fraction, rate);
+        let position = position_of(self.at, self.fraction, rate);
         // A product, where it has room, since a division is slow.
         if self.ordinal > position.high {
             return false;
@@ -56,21 +93,14 @@ impl Clock {
     }
 
     // Numbers 4 and 5.
-    pub(crate) fn checked(self, rate: Rate) -> Check
+    #[tactic(auto, using(std::proofs::lemmas::Result::err_from_is_err_and), unfolding(crate::specs::Check::check_clock))]
+    pub fn check(self, rate: Rate) -> Result<(), Refusal>
         ensures { refused result ≡ check_clock self rate }
     {
-        if !rate.is_lcd() {
-            return Check::Refused(Refusal::Rate);
-        }
+        rate.check()?;
         if !self.valid(rate) {
-            return Check::Refused(Refusal::Clock);
+            return Err(Refusal::Clock);
         }
-        Check::Passed
-    }
-
-    pub fn check(self, rate: Rate) -> Check
-        ensures { refused result ≡ check_clock self rate }
-    {
-        self.checked(rate)
+        Ok(())
     }
 }

@@ -9,8 +9,8 @@ mod rate;
 mod time;
 mod wide;
 
-pub use check::{Check, Refusal};
-pub use edges::{Clock, Edges, Made, Passed};
+pub use check::Refusal;
+pub use edges::{Clock, Passed};
 pub use rate::Rate;
-pub use time::{Duration, Sum, Time};
+pub use time::{Duration, Time};
 pub use wide::Wide;

@@ -8,15 +8,12 @@ use crate::rate::Rate;
 use crate::time::Time;
 use crate::wide::{Wide, mul_add};
 
+#[tactic(auto, using(crate::proofs::Rates::lcd_bounds))]
 pub(crate) fn position_of(at: Time, fraction: u64, rate: Rate) -> Wide
-    requires at_value { in_range at ≡ true }
-    requires rate_value { is_lcd rate ≡ true }
+    requires at_in_range { in_range at ≡ true }
+    requires lcd_rate { is_lcd rate ≡ true }
     requires fraction_lt_numerator { fraction < rate.numerator }
     ensures { result ≡ wide_of (raw at * rate.numerator + fraction) }
 {
-    let words = Wide {
-        high: at.seconds,
-        low: at.fraction,
-    };
-    mul_add(words, rate.numerator, fraction)
+    mul_add(Wide::from(at), rate.numerator, fraction)
 }

@@ -3,7 +3,7 @@ ghost use Rattle.std.specs.Prelude.{◌≡◌};
 ghost use Rattle.clock.specs.Rate.{lcd_rate, same_rate, is_lcd, by_rows, by_oscillator, is_oscillator_rate};
 
 // numerator / denominator edges a second.
-#[derive(Clone, Copy)]
+#[derive(Clone, Copy, Debug, PartialEq, Eq)]
 pub struct Rate {
     pub numerator: u64,
     pub denominator: u64,
@@ -19,60 +19,50 @@ impl Rate {
     {
         if oscillator_control / 2 % 2 == 0 {
             return Self {
-                numerator: 1008 * (rows as u64),
+                numerator: 1008 * rows as u64,
                 denominator: 1,
             };
         }
-        let denominator = (oscillator_frequency % 8) as u64 + 1;
         let setting = (oscillator_frequency / 8) as usize;
-        if setting < 4 {
-            return Self {
-                numerator: OSCILLATOR_RATES[setting],
-                denominator: denominator,
-            };
-        }
         Self {
-            numerator: 0,
-            denominator: denominator,
+            numerator: OSCILLATOR_RATES.get(setting).copied().unwrap_or(0),
+            denominator: (oscillator_frequency % 8) as u64 + 1,
         }
-    }
-
-    pub fn eq(self, other: Rate) -> bool
-        ensures { result ≡ same_rate self other }
-    {
-        (self.numerator == other.numerator) & (self.denominator == other.denominator)
     }
 
     // Whether some setting of the scan gives this rate.
+    #[tactic(auto, unfolding(crate::specs::Rate::is_lcd))]
     pub fn is_lcd(self) -> bool
         ensures { result ≡ is_lcd self }
     {
         // Two steps, since most rates go by rows and need no second test.
-        if self.is_by_rows() {
-            return true;
-        }
-        self.is_by_oscillator()
+        self.is_by_rows() || self.is_by_oscillator()
     }
 
     fn is_by_rows(self) -> bool
         ensures { result ≡ by_rows self }
     {
         let rows = self.numerator / 1008;
-        (self.denominator == 1) & (self.numerator == 1008 * rows) & (16 <= rows) & (rows <= 129)
+        (self.denominator == 1) & (self.numerator == 1008 * rows) & (16..=129).contains(&rows)
     }
 
     fn is_by_oscillator(self) -> bool
         ensures { result ≡ by_oscillator self }
     {
-        is_oscillator_rate(self.numerator) & (1 <= self.denominator) & (self.denominator <= 8)
+        is_oscillator_rate(self.numerator) & (1..=8).contains(&self.denominator)
     }
 }
 
 fn is_oscillator_rate(numerator: u64) -> bool
     ensures { result ≡ is_oscillator_rate numerator }
 {
-    (numerator == OSCILLATOR_RATES[0])
-        | (numerator == OSCILLATOR_RATES[1])
-        | (numerator == OSCILLATOR_RATES[2])
-        | (numerator == OSCILLATOR_RATES[3])
+    OSCILLATOR_RATES.contains(&numerator)
+}
+
+// Ties the equality that is derived to its definition.
+#[tactic(auto, unfolding(crate::specs::Rate::same_rate))]
+fn is_same_rate(a: Rate, b: Rate) -> bool
+    ensures { result ≡ same_rate a b }
+{
+    a == b
 }

@@ -6,24 +6,17 @@ ghost use Rattle.clock.specs.Wide.{wide_of};
 use crate::wide::Wide;
 
 // A moment: seconds since power-on and 2^64ths of a second.
-#[derive(Clone, Copy)]
+#[derive(Clone, Copy, Debug, PartialEq, Eq, PartialOrd, Ord)]
 pub struct Time {
     pub seconds: u64,
     pub fraction: u64,
 }
 
-// A span of time, in the same units.
-#[derive(Clone, Copy)]
+// A span of time, in the same units. A type of its own, so that no moment is added to a moment.
+#[derive(Clone, Copy, Debug, PartialEq, Eq)]
 pub struct Duration {
     pub seconds: u64,
     pub fraction: u64,
-}
-
-// A time later by a duration, or that it is past the largest time.
-#[derive(Clone, Copy)]
-pub enum Sum {
-    At(Time),
-    Overflow,
 }
 
 const MICROS: u64 = 1_000_000;
@@ -54,11 +47,7 @@ impl Time {
     pub fn from_micros(us: u64) -> Self
         ensures { result ≡ time_of (micros_raw us) }
     {
-        let w = micros_raw(us);
-        Self {
-            seconds: w.high,
-            fraction: w.low,
-        }
+        Self::from(micros_raw(us))
     }
 
     // Number 1: a time of 2^32 s or later is out of range.
@@ -68,46 +57,58 @@ impl Time {
         self.seconds < 0x1_0000_0000
     }
 
-    pub fn lt(self, other: Time) -> bool
-        ensures { result ≡ ltb (raw self) (raw other) }
-    {
-        (self.seconds < other.seconds)
-            | ((self.seconds == other.seconds) & (self.fraction < other.fraction))
-    }
-
-    pub fn le(self, other: Time) -> bool
-        ensures { result ≡ leb (raw self) (raw other) }
-    {
-        (self.seconds < other.seconds)
-            | ((self.seconds == other.seconds) & (self.fraction <= other.fraction))
-    }
-
-    pub fn eq(self, other: Time) -> bool
-        ensures { result ≡ eqb (raw self) (raw other) }
-    {
-        (self.seconds == other.seconds) & (self.fraction == other.fraction)
-    }
-
-    pub fn checked_add(self, duration: Duration) -> Sum
+    // None past the largest time.
+    pub fn checked_add(self, duration: Duration) -> Option<Time>
         ensures { result ≡ sum self duration }
     {
-        if self.fraction <= u64::MAX - duration.fraction {
-            if self.seconds <= u64::MAX - duration.seconds {
-                return Sum::At(Time {
-                    seconds: self.seconds + duration.seconds,
-                    fraction: self.fraction + duration.fraction,
-                });
-            }
-            return Sum::Overflow;
-        }
-        if self.seconds < u64::MAX - duration.seconds {
-            return Sum::At(Time {
-                seconds: self.seconds + duration.seconds + 1,
-                fraction: self.fraction - (u64::MAX - duration.fraction) - 1,
-            });
-        }
-        Sum::Overflow
+        let (fraction, carry) = self.fraction.overflowing_add(duration.fraction);
+        let seconds = self
+            .seconds
+            .checked_add(duration.seconds)?
+            .checked_add(carry as u64)?;
+        Some(Time { seconds, fraction })
     }
+}
+
+impl From<Wide> for Time {
+    ghost from_gives = { λ w t. t ≡ record { seconds = w.high; fraction = w.low } };
+
+    fn from(w: Wide) -> Time {
+        Time {
+            seconds: w.high,
+            fraction: w.low,
+        }
+    }
+}
+
+impl From<Time> for Wide {
+    ghost from_gives = { λ t w. w ≡ record { high = t.seconds; low = t.fraction } };
+
+    fn from(t: Time) -> Wide {
+        Wide {
+            high: t.seconds,
+            low: t.fraction,
+        }
+    }
+}
+
+// The orders and the equality that are derived, tied to their definitions.
+fn is_before(a: Time, b: Time) -> bool
+    ensures { result ≡ ltb (raw a) (raw b) }
+{
+    a < b
+}
+
+fn is_not_after(a: Time, b: Time) -> bool
+    ensures { result ≡ leb (raw a) (raw b) }
+{
+    a <= b
+}
+
+fn is_same(a: Time, b: Time) -> bool
+    ensures { result ≡ eqb (raw a) (raw b) }
+{
+    a == b
 }
 
 // Ties the constant to its definition.

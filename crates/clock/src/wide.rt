@@ -3,14 +3,14 @@
 ghost use Rattle.std.specs.Prelude.{◌≡◌, ◌+◌, ◌-◌, ◌*◌, ◌^◌, ◌<◌, ◌≤◌, eqb};
 ghost use Rattle.clock.specs.Wide.{value, wide_of, quotient_of};
 
-// high × 2^64 + low.
-#[derive(Clone, Copy)]
+// high × 2^64 + low. Two words and not a u128, since the C interface carries them as two.
+#[derive(Clone, Copy, Debug, PartialEq, Eq)]
 pub struct Wide {
     pub high: u64,
     pub low: u64,
 }
 
-#[derive(Clone, Copy)]
+#[derive(Clone, Copy, Debug, PartialEq, Eq)]
 pub struct Quotient {
     pub quotient: Wide,
     pub remainder: u64,
@@ -68,15 +68,10 @@ pub(crate) fn difference(a: Wide, b: Wide) -> Wide
     requires { value b ≤ value a }
     ensures { result ≡ wide_of (value a - value b) }
 {
-    if a.low < b.low {
-        return Wide {
-            high: a.high - b.high - 1,
-            low: u64::MAX - b.low + a.low + 1,
-        };
-    }
+    let (low, borrow) = a.low.overflowing_sub(b.low);
     Wide {
-        high: a.high - b.high,
-        low: a.low - b.low,
+        high: a.high - b.high - borrow as u64,
+        low,
     }
 }
 
@@ -85,14 +80,9 @@ pub(crate) fn sum(a: Wide, b: Wide) -> Wide
     requires { a.high + b.high < 2 ^ 63 }
     ensures { result ≡ wide_of (value a + value b) }
 {
-    if a.low <= u64::MAX - b.low {
-        return Wide {
-            high: a.high + b.high,
-            low: a.low + b.low,
-        };
-    }
+    let (low, carry) = a.low.overflowing_add(b.low);
     Wide {
-        high: a.high + b.high + 1,
-        low: a.low - (u64::MAX - b.low) - 1,
+        high: a.high + b.high + carry as u64,
+        low,
     }
 }

@@ -3,11 +3,11 @@
 use Prim.Native.Nat.{ℕ, ◌+◌, ◌<◌}
 use mathlib.Core.Bool.{Bool, true, false, cond}
 use mathlib.Core.List.{List}
-use mathlib.Core.Option.{none}
 use mathlib.Core.Path.{◌≡◌, refl, sym, ◌∙◌, ap}
 use native.Mathlib.Omega.{arith}
 use lib.Dec.{leb}
 use borrow.Author.Tests.{lt-ltb, ltb-true, leb-false}
+use Rattle.std.specs.Prelude.{Option, Some, None}
 use Rattle.checks.proofs.Tests.{both}
 use Rattle.clock.specs.declared.time.Time.{Time}
 use Rattle.scan.specs.declared.settings.Settings.{Settings}
@@ -22,8 +22,6 @@ use Rattle.scan.proofs.Latches.{retained_check}
 use Rattle.scan.proofs.Runs.{updated_valid}
 use Rattle.controller.specs.declared.state.Nt7508.{Nt7508}
 use Rattle.controller.specs.declared.state.Address.{Address}
-use Rattle.controller.specs.declared.state.Pending.{Pending}
-use Rattle.controller.specs.declared.event.Store.{Store}
 use Rattle.controller.specs.declared.event.Stepped.{Stepped}
 use Rattle.controller.specs.State.{with_scan, with_address, with_serial}
 use Rattle.controller.specs.Check.{awaits, valid_saved, valid_address, check_state, check_lent}
@@ -46,10 +44,10 @@ updated_unread x s now true ram icons ram' icons' = refl
 updated_unread x s now false ram icons ram' icons' = refl
 
 -- a command stores nothing
-pub command_stores : (x : Nt7508) (p : Pending) (b : ℕ) (now : Time) → (command_step x p b now).store ≡ Store.Nothing
+pub command_stores : (x : Nt7508) (p : Option ℕ) (b : ℕ) (now : Time) → (command_step x p b now).store ≡ None
 unfolding command_step
-command_stores x (Pending.Command c) b now = refl
-command_stores x Pending.None b now = picked (λ (s : Stepped). s.store ≡ Store.Nothing) (awaits b) refl refl
+command_stores x (Some c) b now = refl
+command_stores x None b now = picked (λ (s : Stepped). s.store ≡ None) (awaits b) refl refl
 
 module _ (x : Nt7508) (b : ℕ) (now : Time) (ram icons : List ℕ) where
   -- a step leaves the same by memory with the byte in it and without
@@ -112,7 +110,7 @@ pub step_valid : (x : Nt7508) (b : ℕ) (now : Time) → b < 256 → Valid x →
 unfolding step_of
 step_valid x b now l v = picked (λ (s : Stepped). Valid s.state) x.serial.«data» (data_valid x b now v) (command_valid x b now l v)
 
-module _ (x : Nt7508) (now : Time) (ram icons : List ℕ) (h : check_lent x now ram icons ≡ none) where
+module _ (x : Nt7508) (now : Time) (ram icons : List ℕ) (h : check_lent x now ram icons ≡ None) where
   pub found_valid : Valid (found x now ram icons)
   unfolding found
   found_valid =
@@ -124,19 +122,19 @@ module _ (x : Nt7508) (now : Time) (ram icons : List ℕ) (h : check_lent x now 
 
   module _ (b : ℕ) (l : b < 256) where
     -- the state that the byte's own step leaves passes the checks of the call
-    pub step_called : check_lent (step_of (found x now ram icons) b now).state now ram icons ≡ none
+    pub step_called : check_lent (step_of (found x now ram icons) b now).state now ram icons ≡ None
     step_called =
         let k = called x now ram icons h in
         called_check _ now ram icons (record { memory = k.memory; in_range_lem = k.in_range_lem; state = valid_check _ (step_valid (found x now ram icons) b now l found_valid) })
 
-pub settled_valid : (was : Bool) (s : Stepped) (now : Time) (ram icons : List ℕ) → check_lent s.state now ram icons ≡ none → Valid (settled_by was s now ram icons).state
+pub settled_valid : (was : Bool) (s : Stepped) (now : Time) (ram icons : List ℕ) → check_lent s.state now ram icons ≡ None → Valid (settled_by was s now ram icons).state
 unfolding settled_by
 settled_valid was s now ram icons h =
     let k = called s.state now ram icons h in
     let v = valid s.state k.state in
     with_scan_valid s.state v _ (scans.valid_check _ (updated_valid _ _ now _ ram icons (valid_scan_lem _ v.scan) (valid_settings_lem _ v.display) k.in_range_lem))
 
-pub byte_valid : (x : Nt7508) (b : ℕ) (now : Time) (ram icons : List ℕ) → b < 256 → check_lent x now ram icons ≡ none → check_state (byte_taken x b now ram icons).state ≡ none
+pub byte_valid : (x : Nt7508) (b : ℕ) (now : Time) (ram icons : List ℕ) → b < 256 → check_lent x now ram icons ≡ None → check_state (byte_taken x b now ram icons).state ≡ None
 byte_valid x b now ram icons l h =
     rw (← byte_unread x b now ram icons) (valid_check _ (settled_valid (runs (conditions_of x.power)) (step_of (found x now ram icons) b now) now ram icons (step_called x now ram icons h b l)))
 
@@ -153,10 +151,10 @@ pub record LineLeaves (x y : Nt7508) : Type 0 where
   pub supply : y.power.supply_millivolts ≡ x.power.supply_millivolts
   pub temperature : y.power.temperature_millicelsius ≡ x.power.temperature_millicelsius
 
-command_line : (x : Nt7508) (p : Pending) (b : ℕ) (now : Time) → LineLeaves x (command_step x p b now).state
+command_line : (x : Nt7508) (p : Option ℕ) (b : ℕ) (now : Time) → LineLeaves x (command_step x p b now).state
 unfolding command_step parameter_taken acted power_after with_serial
-command_line x (Pending.Command c) b now = record { selected = refl; «data» = refl; shift = refl; bits = refl; supplied = refl; ready = refl; cold = refl; supply = refl; temperature = refl }
-command_line x Pending.None b now = picked (λ (s : Stepped). LineLeaves x s.state) (awaits b)
+command_line x (Some c) b now = record { selected = refl; «data» = refl; shift = refl; bits = refl; supplied = refl; ready = refl; cold = refl; supply = refl; temperature = refl }
+command_line x None b now = picked (λ (s : Stepped). LineLeaves x s.state) (awaits b)
     (record { selected = refl; «data» = refl; shift = refl; bits = refl; supplied = refl; ready = refl; cold = refl; supply = refl; temperature = refl })
     (record { selected = refl; «data» = refl; shift = refl; bits = refl; supplied = refl; ready = refl; cold = refl; supply = refl; temperature = refl })
 

@@ -1,12 +1,16 @@
 -- What the checks come to: the conditions of number 3 group by group, what a call knows once its rows pass, and the checks of
 -- the scan's calls out of those of the controller's.
-use Prim.Native.Nat.{ℕ}
+use Prim.Native.Nat.{ℕ, ◌<◌}
 use mathlib.Core.Bool.{Bool, true, ◌&&◌}
 use mathlib.Core.List.{List}
-use mathlib.Core.Option.{Option, none, some}
+use borrow.Author.Tests.{ltb-true}
+use Rattle.std.specs.Prelude.{Option, Some, None, Result, Ok, Err}
 use mathlib.Core.Path.{◌≡◌, refl, sym, ◌∙◌, ap}
+use Rattle.std.specs.Result.{IsErrAnd}
+use Rattle.std.proofs.lemmas.Result.{err_from_is_err_and}
 use Rattle.checks.specs.Checks.{row, first_of, changed}
 use Rattle.checks.proofs.Chains.{first_passed, row_passed}
+use Rattle.checks.proofs.Results.{refused_at_ok, refused_at_err}
 use Rattle.checks.proofs.Tests.{both}
 use Rattle.clock.specs.declared.time.Time.{Time}
 use Rattle.clock.specs.Time.{in_range}
@@ -17,10 +21,11 @@ use Rattle.voltage.specs.Check as analog
 use Rattle.controller.specs.declared.state.Nt7508.{Nt7508}
 use Rattle.controller.specs.declared.state.Serial.{Serial}
 use Rattle.controller.specs.declared.state.Power.{Power}
+use Rattle.scan.specs.declared.check.Refusal as scan
 use Rattle.controller.specs.declared.check.Refusal.{Refusal}
-use Rattle.controller.specs.declared.check.Check.{Check}
+use Rattle.controller.specs.Closed.{check_but_scan}
 use Rattle.controller.specs.State.{with_scan, with_power, with_serial}
-use Rattle.controller.specs.Check.{refused, valid_serial, valid_address, valid_power, valid_state, check_state, group_ok, in_order, check_moment, check_memory, check_lent, check_group, check_image, check_restore}
+use Rattle.controller.specs.Check.{number, of_scan, refused, valid_serial, valid_address, valid_power, valid_state, check_state, group_ok, in_order, check_moment, check_memory, check_lent, check_group, check_image, check_restore}
 
 -- a state that passes numbers 3 to 5, group by group
 pub record Valid (x : Nt7508) : Type 0 where
@@ -29,9 +34,9 @@ pub record Valid (x : Nt7508) : Type 0 where
   pub display : display.valid_settings x.display ≡ true
   pub analog : analog.valid_settings x.analog ≡ true
   pub power : valid_power x.power ≡ true
-  pub scan : check_scan x.scan ≡ none
+  pub scan : check_scan x.scan ≡ None
 
-pub valid : (x : Nt7508) → check_state x ≡ none → Valid x
+pub valid : (x : Nt7508) → check_state x ≡ None → Valid x
 unfolding check_state valid_state
 valid x h =
     let p = first_passed _ _ h in
@@ -41,9 +46,14 @@ valid x h =
     let d = both _ _ c.0 in
     record { serial = d.0; address = d.1; display = c.1; analog = b.1; power = a.1; scan = p.1 }
 
-pub valid_check : (x : Nt7508) → Valid x → check_state x ≡ none
+pub valid_check : (x : Nt7508) → Valid x → check_state x ≡ None
 unfolding check_state valid_state
 valid_check x v = simp (v.serial, v.address, v.display, v.analog, v.power, v.scan)
+
+-- seven bits at the most are under way
+pub bits_below : (x : Nt7508) → check_state x ≡ None → x.serial.bits < 8
+unfolding valid_serial
+bits_below x h = ltb-true _ _ (both _ _ (valid x h).serial).0
 
 -- a state that passes, with one group replaced by one that passes
 module _ (x : Nt7508) (v : Valid x) where
@@ -55,20 +65,20 @@ module _ (x : Nt7508) (v : Valid x) where
   unfolding with_power
   with_power_valid p h = record { serial = v.serial; address = v.address; display = v.display; analog = v.analog; power = h; scan = v.scan }
 
-  pub with_scan_valid : (s : Scan) → check_scan s ≡ none → Valid (with_scan x s)
+  pub with_scan_valid : (s : Scan) → check_scan s ≡ None → Valid (with_scan x s)
   unfolding with_scan
   with_scan_valid s h = record { serial = v.serial; address = v.address; display = v.display; analog = v.analog; power = v.power; scan = h }
 
 -- every row of a chain that passes
 record Rows (memory image time state restore group : Option ℕ) : Type 0 where
-  memory_passed : memory ≡ none
-  image_passed : image ≡ none
-  time_passed : time ≡ none
-  state_passed : state ≡ none
-  restore_passed : restore ≡ none
-  group_passed : group ≡ none
+  memory_passed : memory ≡ None
+  image_passed : image ≡ None
+  time_passed : time ≡ None
+  state_passed : state ≡ None
+  restore_passed : restore ≡ None
+  group_passed : group ≡ None
 
-rows_passed : (memory image time state restore group : Option ℕ) → in_order memory image time state restore group ≡ none → Rows memory image time state restore group
+rows_passed : (memory image time state restore group : Option ℕ) → in_order memory image time state restore group ≡ None → Rows memory image time state restore group
 unfolding in_order
 rows_passed memory image time state restore group h =
     let a = first_passed memory _ h in
@@ -81,22 +91,22 @@ rows_passed memory image time state restore group h =
 -- what a call knows once its checks pass: one that takes a moment
 pub record Timed (x : Nt7508) (now : Time) : Type 0 where
   pub in_range_lem : in_range now ≡ true
-  pub state : check_state x ≡ none
+  pub state : check_state x ≡ None
 
-pub timed : (x : Nt7508) (now : Time) → check_moment x now ≡ none → Timed x now
+pub timed : (x : Nt7508) (now : Time) → check_moment x now ≡ None → Timed x now
 unfolding check_moment
 timed x now h = let p = rows_passed _ _ _ _ _ _ h in record { in_range_lem = row_passed 1 _ p.time_passed; state = p.state_passed }
 
-pub timed_check : (x : Nt7508) (now : Time) → Timed x now → check_moment x now ≡ none
+pub timed_check : (x : Nt7508) (now : Time) → Timed x now → check_moment x now ≡ None
 unfolding check_moment in_order
 timed_check x now t = simp (t.in_range_lem, t.state)
 
 -- one that takes lent memory
 pub record Stored (x : Nt7508) (ram icons : List ℕ) : Type 0 where
   pub memory : memory_ok ram icons ≡ true
-  pub state : check_state x ≡ none
+  pub state : check_state x ≡ None
 
-pub stored : (x : Nt7508) (ram icons : List ℕ) → check_memory x ram icons ≡ none → Stored x ram icons
+pub stored : (x : Nt7508) (ram icons : List ℕ) → check_memory x ram icons ≡ None → Stored x ram icons
 unfolding check_memory
 stored x ram icons h = let p = rows_passed _ _ _ _ _ _ h in record { memory = row_passed 2 _ p.memory_passed; state = p.state_passed }
 
@@ -104,24 +114,24 @@ stored x ram icons h = let p = rows_passed _ _ _ _ _ _ h in record { memory = ro
 pub record Called (x : Nt7508) (now : Time) (ram icons : List ℕ) : Type 0 where
   pub memory : memory_ok ram icons ≡ true
   pub in_range_lem : in_range now ≡ true
-  pub state : check_state x ≡ none
+  pub state : check_state x ≡ None
 
-pub called : (x : Nt7508) (now : Time) (ram icons : List ℕ) → check_lent x now ram icons ≡ none → Called x now ram icons
+pub called : (x : Nt7508) (now : Time) (ram icons : List ℕ) → check_lent x now ram icons ≡ None → Called x now ram icons
 unfolding check_lent
 called x now ram icons h =
     let p = rows_passed _ _ _ _ _ _ h in
     record { memory = row_passed 2 _ p.memory_passed; in_range_lem = row_passed 1 _ p.time_passed; state = p.state_passed }
 
-pub called_check : (x : Nt7508) (now : Time) (ram icons : List ℕ) → Called x now ram icons → check_lent x now ram icons ≡ none
+pub called_check : (x : Nt7508) (now : Time) (ram icons : List ℕ) → Called x now ram icons → check_lent x now ram icons ≡ None
 unfolding check_lent in_order
 called_check x now ram icons k = simp (k.memory, k.in_range_lem, k.state)
 
 -- a group of bits
 pub record Grouped (x : Nt7508) (bits count : ℕ) (now : Time) (ram icons : List ℕ) : Type 0 where
-  pub lent : check_lent x now ram icons ≡ none
+  pub lent : check_lent x now ram icons ≡ None
   pub group_ok_lem : group_ok bits count ≡ true
 
-pub grouped : (x : Nt7508) (bits count : ℕ) (now : Time) (ram icons : List ℕ) → check_group x bits count now ram icons ≡ none → Grouped x bits count now ram icons
+pub grouped : (x : Nt7508) (bits count : ℕ) (now : Time) (ram icons : List ℕ) → check_group x bits count now ram icons ≡ None → Grouped x bits count now ram icons
 unfolding check_group
 grouped x bits count now ram icons h =
     let p = rows_passed _ _ _ _ _ _ h in
@@ -134,16 +144,16 @@ grouped x bits count now ram icons h =
 pub record Painted (x : Nt7508) (ram icons : List ℕ) (bytes : ℕ) : Type 0 where
   pub memory : memory_ok ram icons ≡ true
   pub image_ok_lem : image_ok bytes ≡ true
-  pub state : check_state x ≡ none
+  pub state : check_state x ≡ None
 
-pub painted_checks : (x : Nt7508) (ram icons : List ℕ) (bytes : ℕ) → check_image x ram icons bytes ≡ none → Painted x ram icons bytes
+pub painted_checks : (x : Nt7508) (ram icons : List ℕ) (bytes : ℕ) → check_image x ram icons bytes ≡ None → Painted x ram icons bytes
 unfolding check_image
 painted_checks x ram icons bytes h =
     let p = rows_passed _ _ _ _ _ _ h in
     record { memory = row_passed 2 _ p.memory_passed; image_ok_lem = row_passed 8 _ p.image_passed; state = p.state_passed }
 
 -- a restored state
-pub restored : (x : Nt7508) (now : Time) (ram icons : List ℕ) → check_restore x now ram icons ≡ none → Called x now ram icons
+pub restored : (x : Nt7508) (now : Time) (ram icons : List ℕ) → check_restore x now ram icons ≡ None → Called x now ram icons
 unfolding check_restore
 restored x now ram icons h =
     let p = rows_passed _ _ _ _ _ _ h in
@@ -151,29 +161,33 @@ restored x now ram icons h =
 
 -- the scan's calls then pass theirs
 module _ (x : Nt7508) (now : Time) where
-  pub scan_timed : check_moment x now ≡ none → display.check_moment x.scan (display.valid_settings x.display) now ≡ none
+  pub scan_timed : check_moment x now ≡ None → display.check_moment x.scan (display.valid_settings x.display) now ≡ None
   unfolding display.check_moment display.in_order
   scan_timed h = let t = timed x now h in let v = valid x t.state in simp (t.in_range_lem, v.display, v.scan)
 
   module _ (ram icons : List ℕ) where
-    pub scan_called : check_lent x now ram icons ≡ none → display.check_lent x.scan (display.valid_settings x.display) now ram icons ≡ none
+    pub scan_called : check_lent x now ram icons ≡ None → display.check_lent x.scan (display.valid_settings x.display) now ram icons ≡ None
     unfolding display.check_lent display.in_order
     scan_called h = let k = called x now ram icons h in let v = valid x k.state in simp (k.memory, k.in_range_lem, v.display, v.scan)
 
-    pub drive_called : check_lent x now ram icons ≡ none → display.check_lent x.scan (display.valid_settings x.display && analog.valid_settings x.analog) now ram icons ≡ none
+    pub drive_called : check_lent x now ram icons ≡ None → display.check_lent x.scan (display.valid_settings x.display && analog.valid_settings x.analog) now ram icons ≡ None
     unfolding display.check_lent display.in_order
     drive_called h = let k = called x now ram icons h in let v = valid x k.state in simp (k.memory, k.in_range_lem, v.display, v.analog, v.scan)
 
-pub image_called : (x : Nt7508) (ram icons : List ℕ) (bytes : ℕ) → check_image x ram icons bytes ≡ none → display.check_image x.display ram icons bytes ≡ none
+pub image_called : (x : Nt7508) (ram icons : List ℕ) (bytes : ℕ) → check_image x ram icons bytes ≡ None → display.check_image x.display ram icons bytes ≡ None
 unfolding display.check_image display.in_order
 image_called x ram icons bytes h = let k = painted_checks x ram icons bytes h in let v = valid x k.state in simp (k.memory, k.image_ok_lem, v.display)
 
 -- where the state passes, a call is turned down for its arguments alone
-pub first_none : (a : Option ℕ) → first_of a none ≡ a
-first_none none = refl
-first_none (some n) = refl
+pub first_none : (a : Option ℕ) → first_of a None ≡ a
+first_none None = refl
+first_none (Some n) = refl
 
-module _ (x : Nt7508) (h : check_state x ≡ none) where
+pub first_first : (a b c : Option ℕ) → first_of (first_of a b) c ≡ first_of a (first_of b c)
+first_first None b c = refl
+first_first (Some n) b c = refl
+
+module _ (x : Nt7508) (h : check_state x ≡ None) where
   pub moment_alone : (now : Time) → check_moment x now ≡ row 1 (in_range now)
   unfolding check_moment in_order
   moment_alone now = simp h (first_none (row 1 (in_range now)))
@@ -191,18 +205,49 @@ module _ (x : Nt7508) (h : check_state x ≡ none) where
     unfolding check_image in_order
     image_alone bytes = simp (h, m) (ap (first_of (row 2 ok)) (first_none (row 8 (image_ok bytes))))
 
--- what a check that was opened by `let Check::Passed = check else` says of its definition, where it passed and where not
-module _ {check : Check} {c : Option ℕ} (e : refused check ≡ c) where
-  pub passes : check ≡ Check.Passed → c ≡ none
-  passes h = sym e ∙ rw h
+-- the checks of a call that takes a moment and lent memory are the scan's after all others
+pub lent_chain : (x : Nt7508) (now : Time) (ram icons : List ℕ) → check_lent x now ram icons ≡ first_of (check_but_scan x now ram icons) (check_scan x.scan)
+unfolding check_lent check_but_scan in_order check_state
+lent_chain x now ram icons =
+    let memory = row 2 (memory_ok ram icons) in
+    let time = row 1 (in_range now) in
+    let state = row 3 (valid_state x) in
+    ap (λ (c : Option ℕ). first_of memory (first_of time c)) (first_none (first_of state (check_scan x.scan)))
+    ∙ ap (first_of memory) (sym (first_first time state (check_scan x.scan)))
+    ∙ sym (first_first memory (first_of time state) (check_scan x.scan))
 
-  pub passed_answer : {A : Type 0} (new given : A) → check ≡ Check.Passed → (none, new) ≡ changed c new given
+-- a refusal of the scan keeps its number
+pub of_scan_number : (why : scan.Refusal) → number (of_scan why) ≡ display.number why
+of_scan_number scan.Refusal.Memory = refl
+of_scan_number scan.Refusal.Image = refl
+of_scan_number scan.Refusal.Time = refl
+of_scan_number scan.Refusal.Settings = refl
+of_scan_number scan.Refusal.Scan = refl
+of_scan_number scan.Refusal.Clock = refl
+
+-- what a check that was opened by `?` says of its definition, where it passed and where not
+module _ {A : Type 0} {check : Result A Refusal} {c : Option ℕ} (e : refused check ≡ c) where
+  pub passes : {a : A} → check ≡ Ok a → c ≡ None
+  passes h = refused_at_ok number check e h
+
+  pub refuses : {why : Refusal} → check ≡ Err why → Some (number why) ≡ c
+  refuses h = sym (refused_at_err number check e h)
+
+  pub passed_answer : {B : Type 0} {a : A} (new given : B) → check ≡ Ok a → (None, new) ≡ changed c new given
   passed_answer new given h = rw (passes h)
 
-  pub refused_answer : {A : Type 0} {why : Refusal} (new given : A) → check ≡ Check.Refused why → (refused check, given) ≡ changed c new given
-  refused_answer new given h = rw (← e, h)
+  pub refused_answer : {B : Type 0} {why : Refusal} (new given : B) → check ≡ Err why → (Some (number why), given) ≡ changed c new given
+  refused_answer new given h = rw (refused_at_err number check e h)
+
+-- what the exit of a `?` returns
+pub handed_on : {A : Type 0} {r : Result A Refusal} {why : Refusal} → IsErrAnd r (λ e. e ≡ why) → r ≡ Err why
+handed_on {r = r} h = let p = err_from_is_err_and r h in p.1 ∙ ap Err p.2
+
+-- the value of an answer that is known
+pub ok_value : {A E : Type 0} {r : Result A E} {a b : A} → r ≡ Ok a → r ≡ Ok b → a ≡ b
+ok_value {A} {E} {r} {a} {b} f g = let e : ◌≡◌ {A = Result A E} (Ok a) (Ok b) = sym f ∙ g in cc
 
 -- a call that hands the state back, turned down or not
 pub given_back : {A : Type 0} (check : Option ℕ) (a : A) → changed check a a ≡ (check, a)
-given_back none a = refl
-given_back (some n) a = refl
+given_back None a = refl
+given_back (Some n) a = refl

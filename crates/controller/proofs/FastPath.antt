@@ -3,19 +3,17 @@ use Prim.Native.Nat.{ℕ, ◌≤◌, ◌<◌}
 use mathlib.Core.Bool.{Bool, true, false, cond, ◌&&◌, ◌||◌, false≢true, and-false}
 use mathlib.Core.List.{List}
 use mathlib.Core.Logic.{◌⊎◌, inl, inr}
-use mathlib.Core.Option.{Option, none}
 use mathlib.Core.Path.{◌≡◌, refl, sym, ◌∙◌, ap, ap₂}
 use native.Mathlib.Omega.{arith}
 use lib.Dec.{leb, eqb}
 use borrow.Author.Tests.{lt-leb, leb-true, eqb-true}
+use Rattle.std.specs.Prelude.{Option, Some, None, is_none}
+use Rattle.std.proofs.lemmas.Option.{none-some, same_Some, cond_some}
 use Rattle.checks.specs.Checks.{unless_refused, changed}
 use Rattle.checks.proofs.Tests.{both, either}
 use Rattle.clock.specs.declared.time.Time.{Time}
 use Rattle.scan.specs.declared.settings.Settings as display
 use Rattle.scan.specs.declared.state.Scan.{Scan}
-use Rattle.scan.specs.declared.run.Running.{Running}
-use Rattle.scan.specs.declared.latch.DataPage.{DataPage}
-use Rattle.scan.specs.declared.fast.FastScan.{FastScan}
 use Rattle.scan.specs.Check.{check_scan}
 use Rattle.scan.specs.Drive.{runs}
 use Rattle.scan.specs.Run.{running_after, byte_scan}
@@ -26,11 +24,8 @@ use Rattle.voltage.specs.declared.Settings as analog
 use Rattle.controller.specs.declared.state.Nt7508.{Nt7508}
 use Rattle.controller.specs.declared.state.Serial.{Serial}
 use Rattle.controller.specs.declared.state.Address.{Address}
-use Rattle.controller.specs.declared.state.Pending.{Pending}
 use Rattle.controller.specs.declared.state.Power.{Power}
 use Rattle.controller.specs.declared.event.Event.{Event}
-use Rattle.controller.specs.declared.event.Parameter.{Parameter}
-use Rattle.controller.specs.declared.event.Store.{Store}
 use Rattle.controller.specs.declared.event.Stepped.{Stepped}
 use Rattle.controller.specs.declared.fast.FastStep.{FastStep}
 use Rattle.controller.specs.State.{with_scan, with_address, with_serial}
@@ -40,7 +35,7 @@ use Rattle.controller.specs.Command.{display_after, analog_after, power_after, a
 use Rattle.controller.specs.Byte.{conditions_of, data_step, page_sent, step_of, byte_taken}
 use Rattle.controller.specs.Bits.{Outcome, with_bits, quiet, performed, edges, unpacked, shift_in}
 use Rattle.controller.specs.Closed.{registers_ok, completes, display_then, power_then}
-use Rattle.controller.specs.Fast.{addressing, no_pending, keeps, staying, registers_stay, is_fast_byte, not_fast, fast_step, fast_step_of}
+use Rattle.controller.specs.Fast.{addressing, keeps, staying, registers_stay, is_fast_byte, fast_step, fast_step_of}
 use Rattle.controller.proofs.Registers.{in_run}
 use Rattle.controller.proofs.Groups.{edges_whole, group_passed}
 use Rattle.controller.proofs.Parts.{command_taken, step_is, scan_after, beside_scan, byte_parts}
@@ -126,7 +121,7 @@ module _ (b : ℕ) (h : addressing b ≡ true) where
   unfolding power_after
   power_stays p = simp (apart 0xa8 refl, apart 0xa9 refl, apart 0xab refl, apart 0xae refl, apart 0xaf refl, apart 0xe1 refl)
 
-  acted_stays : (x : Nt7508) → x.serial.pending ≡ Pending.None → acted x b ≡ with_address x (address_after x.address b)
+  acted_stays : (x : Nt7508) → x.serial.pending ≡ None → acted x b ≡ with_address x (address_after x.address b)
   unfolding acted with_address
   acted_stays x e = λ i. record {
     scan = x.scan;
@@ -139,14 +134,14 @@ module _ (b : ℕ) (h : addressing b ≡ true) where
 
 -- ---- what a byte that keeps the registers does
 abbrev as_step : Nt7508 → FastStep → Stepped
-as_step x s = record { state = with_address x s.address; event = s.event; store = s.store }
+as_step x s = record { state = with_address x s.address; event = Some s.event; store = s.store }
 
 module _ (x : Nt7508) (b : ℕ) (now : Time) (z : Scan) where
-  command_fast : (p : Pending) → x.serial.pending ≡ p → no_pending p && addressing b ≡ true → command_taken x p b now (awaits b) ≡ record { state = with_address x (address_after x.address b); event = Event.Control now b Parameter.None; store = Store.Nothing }
-  command_fast (Pending.Command c) e h = absurd (false≢true h)
-  command_fast Pending.None e h =
-      ap (command_taken x Pending.None b now) (awaits_none b h)
-      ∙ ap (λ (y : Nt7508). record { state = y; event = Event.Control now b Parameter.None; store = Store.Nothing }) (acted_stays b h x e)
+  command_fast : (p : Option ℕ) → x.serial.pending ≡ p → is_none p && addressing b ≡ true → command_taken x p b now (awaits b) ≡ record { state = with_address x (address_after x.address b); event = Some (Event.Control now b None); store = None }
+  command_fast (Some c) e h = absurd (false≢true h)
+  command_fast None e h =
+      ap (command_taken x None b now) (awaits_none b h)
+      ∙ ap (λ (y : Nt7508). record { state = y; event = Some (Event.Control now b None); store = None }) (acted_stays b h x e)
 
   step_fast : keeps x.serial b ≡ true → step_of x b now ≡ as_step x (fast_step_of z x.serial x.address b now)
   unfolding fast_step_of data_step
@@ -157,11 +152,11 @@ module _ (x : Nt7508) (b : ℕ) (now : Time) (z : Scan) where
       go false e = simp e (command_fast x.serial.pending refl (simp e at h))
 
 -- the scan is as given
-fast_parts : (z : Scan) (l : Serial) (a : Address) (b : ℕ) (now : Time) → let s = fast_step_of z l a b now in s ≡ record { fast = true; scan = z; address = s.address; event = s.event; store = s.store }
+fast_parts : (z : Scan) (l : Serial) (a : Address) (b : ℕ) (now : Time) → let s = fast_step_of z l a b now in s ≡ record { scan = z; address = s.address; event = s.event; store = s.store }
 unfolding fast_step_of
 fast_parts z l a b now = go l.«data» refl
   where
-    go : (d : Bool) → l.«data» ≡ d → let s = fast_step_of z l a b now in s ≡ record { fast = true; scan = z; address = s.address; event = s.event; store = s.store }
+    go : (d : Bool) → l.«data» ≡ d → let s = fast_step_of z l a b now in s ≡ record { scan = z; address = s.address; event = s.event; store = s.store }
     go true e = simp e
     go false e = simp e
 
@@ -203,17 +198,30 @@ cleared x = with_serial x (with_bits x.serial 0 0)
 abbrev pub left_by : Nt7508 → FastStep → (ram icons : List ℕ) → Outcome
 left_by x s ram icons = record {
   state = record { scan = s.scan; display = x.display; analog = x.analog; power = x.power; address = s.address; serial = with_bits x.serial 0 0 };
-  event = s.event;
+  event = Some s.event;
   ram = ram_after s.store ram;
   icons = icons_after s.store icons;
 }
 
 module _ (x : Nt7508) (b : ℕ) (now : Time) (ram icons : List ℕ) where
-  pub fast_step_is : is_fast_byte x b now ram icons ≡ true → fast_step x b now ram icons ≡ fast_step_of (scan_fast x now ram icons) x.serial x.address b now
+  pub fast_step_is : is_fast_byte x b now ram icons ≡ true → fast_step x b now ram icons ≡ Some (fast_step_of (scan_fast x now ram icons) x.serial x.address b now)
   unfolding fast_step with_address
   fast_step_is h =
       let z = scan_fast x now ram icons in
-      simp (h, step_fast x b now z (fast_stays x b now ram icons h).keeps_registers) (sym (fast_parts z x.serial x.address b now))
+      simp (h, step_fast x b now z (fast_stays x b now ram icons h).keeps_registers) (ap Some (sym (fast_parts z x.serial x.address b now)))
+
+  -- an answer is of a byte that takes it
+  pub fast_is : {s : FastStep} → fast_step x b now ram icons ≡ Some s → is_fast_byte x b now ram icons ≡ true
+  unfolding fast_step
+  fast_is {s} e = go (is_fast_byte x b now ram icons) _ e
+    where
+      go : (t : Bool) (full : Option FastStep) → cond t full None ≡ Some s → t ≡ true
+      go true full e = refl
+      go false full e = absurd (none-some s e)
+
+  -- and is as the code puts it together
+  pub fast_answer : {s : FastStep} → fast_step x b now ram icons ≡ Some s → s ≡ fast_step_of (scan_fast x now ram icons) x.serial x.address b now
+  fast_answer {s} e = same_Some _ _ (sym e ∙ fast_step_is (fast_is e))
 
   module _ (l : b < 256) (h : is_fast_byte x b now ram icons ≡ true) where
     same_step : step_of (cleared x) b now ≡ as_step (cleared x) (fast_step_of (scan_fast x now ram icons) x.serial x.address b now)
@@ -236,7 +244,7 @@ module _ (x : Nt7508) (b : ℕ) (now : Time) (ram icons : List ℕ) where
         sym (ap₂ (λ (d : display.Settings) (p : Power). byte_scan x.scan x.display d now (page_sent x) (running_after (runs (conditions_of x.power)) (runs (conditions_of p))) ram icons) display_same power_same)
         ∙ scan_byte (cleared x) b now ram icons g.memory g.in_range_lem (bits_registers x 0 0 (omega arith) g.registers_ok_lem) l
 
-    scan_passes : check_scan x.scan ≡ none
+    scan_passes : check_scan x.scan ≡ None
     scan_passes = sym (ap (λ (a : Option ℕ × Scan). a.0) scan_by_rule) ∙ fast_passes x.scan x.display now (staying x.power) ram icons (scan_is_fast x b now ram icons h) (page_sent x)
 
     scan_fast_lem : scan_after (cleared x) b now ram icons ≡ scan_fast x now ram icons
@@ -257,41 +265,34 @@ module _ (x : Nt7508) (b : ℕ) (now : Time) (ram icons : List ℕ) where
         ∙ ap₂ (λ (s : Stepped) (z : Scan). performed (beside_scan s z) ram icons) same_step (scan_fast_lem ∙ sym (ap (λ (s : FastStep). s.scan) (fast_parts z x.serial x.address b now)))
 
 -- the fast path answers what a group of its eight bits does
-pub fast_shift : (x : Nt7508) (b : ℕ) (now : Time) (ram icons : List ℕ) → b < 256 → is_fast_byte x b now ram icons ≡ true → shift_in x b 8 now ram icons ≡ (none, left_by x (fast_step x b now ram icons) ram icons)
-fast_shift x b now ram icons l h =
+pub fast_shift : (x : Nt7508) (b : ℕ) (now : Time) (ram icons : List ℕ) {s : FastStep} → b < 256 → fast_step x b now ram icons ≡ Some s → shift_in x b 8 now ram icons ≡ (None, left_by x s ram icons)
+fast_shift x b now ram icons l e =
+    let h = fast_is x b now ram icons e in
     let k = fast_stays x b now ram icons h in
     group_passed x b 8 now ram icons (group_scan x b 8 now ram icons k.registers_ok_lem ∙ scan_passes x b now ram icons l h)
-    ∙ ap (λ (o : Outcome). (none, o)) (eight_bits x b now ram icons l h ∙ byte_left x b now ram icons l h ∙ ap (λ (s : FastStep). left_by x s ram icons) (sym (fast_step_is x b now ram icons h)))
+    ∙ ap (λ (o : Outcome). (None, o)) (eight_bits x b now ram icons l h ∙ byte_left x b now ram icons l h ∙ ap (λ (s : FastStep). left_by x s ram icons) (sym (fast_answer x b now ram icons e)))
 
 -- ---- by what its parts answered
-mark_of_scan : (z : Scan) (s : display.Settings) (now : Time) (page : DataPage) (running : Running) (ram icons : List ℕ) → (fast_byte z s now page running ram icons).fast ≡ is_fast z s now running ram icons
-unfolding fast_byte
-mark_of_scan z s now page running ram icons = go (is_fast z s now running ram icons) refl
-  where
-    go : (t : Bool) → is_fast z s now running ram icons ≡ t → (fast_byte z s now page running ram icons).fast ≡ is_fast z s now running ram icons
-    go true e = simp e
-    go false e = simp e
+none_fast : {A : Type 0} (t : Bool) (z : A) → cond t (Some z) None ≡ None → t ≡ false
+none_fast true z e = absurd (none-some z (sym e))
+none_fast false z e = refl
 
 module _ (x : Nt7508) (b : ℕ) (now : Time) (ram icons : List ℕ) where
-  pub registers_other : registers_stay x b now ram icons ≡ false → not_fast x ≡ fast_step x b now ram icons
+  pub registers_other : registers_stay x b now ram icons ≡ false → None ≡ fast_step x b now ram icons
   unfolding fast_step is_fast_byte
   registers_other h = simp h
 
-  module _ (r : registers_stay x b now ram icons ≡ true) {q : FastScan} (e : q ≡ fast_byte x.scan x.display now (page_sent x) (staying x.power) ram icons) where
-    mark_is : q.fast ≡ is_fast_byte x b now ram icons
-    unfolding is_fast_byte
-    mark_is = ap (λ (q : FastScan). q.fast) e ∙ mark_of_scan x.scan x.display now (page_sent x) (staying x.power) ram icons ∙ simp r
+  module _ (r : registers_stay x b now ram icons ≡ true) {q : Option Scan} (e : q ≡ fast_byte x.scan x.display now (page_sent x) (staying x.power) ram icons) where
+    pub scan_other : q ≡ None → None ≡ fast_step x b now ram icons
+    unfolding fast_step is_fast_byte fast_byte
+    scan_other h = simp (r, none_fast (is_fast x.scan x.display now (staying x.power) ram icons) _ (sym e ∙ h))
 
-    pub scan_other : q.fast ≡ false → not_fast x ≡ fast_step x b now ram icons
-    unfolding fast_step
-    scan_other h = simp (sym mark_is ∙ h)
-
-    pub fast_by_scan : q.fast ≡ true → fast_step_of q.scan x.serial x.address b now ≡ fast_step x b now ram icons
-    unfolding fast_byte
-    fast_by_scan h =
-        let u : is_fast x.scan x.display now (staying x.power) ram icons ≡ true = sym (ap (λ (q : FastScan). q.fast) e ∙ mark_of_scan x.scan x.display now (page_sent x) (staying x.power) ram icons) ∙ h in
-        ap (λ (q : FastScan). fast_step_of q.scan x.serial x.address b now) e
-        ∙ simp u (sym (fast_step_is x b now ram icons (sym mark_is ∙ h)))
+    pub fast_by_scan : {z : Scan} → q ≡ Some z → Some (fast_step_of z x.serial x.address b now) ≡ fast_step x b now ram icons
+    unfolding is_fast_byte fast_byte
+    fast_by_scan {z} h =
+        let p = cond_some (is_fast x.scan x.display now (staying x.power) ram icons) (scan_fast x now ram icons) z (sym e ∙ h) in
+        ap (λ (z : Scan). Some (fast_step_of z x.serial x.address b now)) (sym p.1)
+        ∙ sym (fast_step_is x b now ram icons (simp (r, p.0)))
 
 -- ---- what it leaves as it is: of the scan all but clock, counters and latch, and of the address the saved column
 saved_stays : (a : Address) (b : ℕ) → addressing b ≡ true → (address_after a b).saved_column ≡ a.saved_column
@@ -304,15 +305,15 @@ fast_saved z l a b now h = go l.«data» refl
   where
     go : (d : Bool) → l.«data» ≡ d → (fast_step_of z l a b now).address.saved_column ≡ a.saved_column
     go true e = simp e
-    go false e = simp e (saved_stays a b (both (no_pending l.pending) (addressing b) (simp e at h)).1)
+    go false e = simp e (saved_stays a b (both (is_none l.pending) (addressing b) (simp e at h)).1)
 
-module _ (x : Nt7508) (b : ℕ) (now : Time) (ram icons : List ℕ) (h : is_fast_byte x b now ram icons ≡ true) where
-  pub scan_lasts : lasting (fast_step x b now ram icons).scan ≡ lasting x.scan
+module _ (x : Nt7508) (b : ℕ) (now : Time) (ram icons : List ℕ) {s : FastStep} (e : fast_step x b now ram icons ≡ Some s) where
+  pub scan_lasts : lasting s.scan ≡ lasting x.scan
   scan_lasts =
-      ap (λ (s : FastStep). lasting s.scan) (fast_step_is x b now ram icons h ∙ fast_parts (scan_fast x now ram icons) x.serial x.address b now)
-      ∙ fast_lasts x.scan x.display now (staying x.power) ram icons (scan_is_fast x b now ram icons h) (page_sent x)
+      ap (λ (s : FastStep). lasting s.scan) (fast_answer x b now ram icons e ∙ fast_parts (scan_fast x now ram icons) x.serial x.address b now)
+      ∙ fast_lasts x.scan x.display now (staying x.power) ram icons (scan_is_fast x b now ram icons (fast_is x b now ram icons e)) (page_sent x)
 
-  pub saved_lasts : (fast_step x b now ram icons).address.saved_column ≡ x.address.saved_column
+  pub saved_lasts : s.address.saved_column ≡ x.address.saved_column
   saved_lasts =
-      ap (λ (s : FastStep). s.address.saved_column) (fast_step_is x b now ram icons h)
-      ∙ fast_saved (scan_fast x now ram icons) x.serial x.address b now (fast_stays x b now ram icons h).keeps_registers
+      ap (λ (s : FastStep). s.address.saved_column) (fast_answer x b now ram icons e)
+      ∙ fast_saved (scan_fast x now ram icons) x.serial x.address b now (fast_stays x b now ram icons (fast_is x b now ram icons e)).keeps_registers

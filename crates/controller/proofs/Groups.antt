@@ -3,23 +3,21 @@
 use Prim.Native.Nat.{ℕ, zero, suc, ◌+◌, ◌-◌, ◌*◌, ◌/◌, ◌%◌, ◌^◌, ◌≤◌, ◌<◌}
 use mathlib.Core.Bool.{Bool, true, false, cond}
 use mathlib.Core.List.{List, [], ◌∷◌, ◌++◌}
-use mathlib.Core.Option.{Option, none}
 use mathlib.Core.Path.{◌≡◌, refl, sym, ◌∙◌, ap, ap₂}
 use native.Mathlib.Nat.{le_refl, zero-add, one-mul, suc-add, add_comm, mod-lt, mod-eq_of_lt, div-one, div-add-mod', add-mul-mod_self_right, pow-suc}
 use native.Mathlib.Numerals.{suc-eq-add-one}
 use native.Mathlib.Omega.{arith}
 use lib.Dec.{ltb, eqb}
-use lib.ListN.{length, length-set}
+use lib.ListN.{length}
 use lib.Pow.{pow_pos, shl_exact, field, mod-mod-pow, shr-shr, shr_lt}
 use mir.Val.{bool_byte}
 use borrow.Author.Tests.{ltb-true, lt-ltb, le-leb, leb-true, eqb-false, eq-eqb, ne_eqb}
+use Rattle.std.specs.Prelude.{Option, Some, None}
 use Rattle.checks.specs.Checks.{first_of}
 use Rattle.checks.proofs.Tests.{both}
 use Rattle.clock.specs.declared.time.Time.{Time}
-use Rattle.scan.specs.Check.{memory_ok}
 use Rattle.controller.specs.declared.state.Nt7508.{Nt7508}
 use Rattle.controller.specs.declared.event.Event.{Event}
-use Rattle.controller.specs.declared.event.Store.{Store}
 use Rattle.controller.specs.declared.event.Stepped.{Stepped}
 use Rattle.controller.specs.State.{with_serial}
 use Rattle.controller.specs.Check.{valid_pending, valid_serial, check_state, group_ok, in_order, check_lent, check_group}
@@ -28,6 +26,7 @@ use Rattle.controller.specs.Byte.{byte_taken}
 use Rattle.controller.specs.Bits.{Outcome, taking, shifted_in, with_bits, quiet, performed, bit_taken, edge, or_else, and_then, edges, bit_at, unpacked, rising, shift_in}
 use Rattle.controller.proofs.Checks.{valid, valid_check, called, called_check, grouped}
 use Rattle.controller.proofs.Bytes.{byte_valid, byte_serial}
+use Rattle.controller.proofs.Parts.{stored_memory}
 
 -- one, shifted within a word
 pub one_shifted : (w p : ℕ) → p < w → 1 * 2 ^ p % 2 ^ w ≡ 2 ^ p
@@ -70,21 +69,19 @@ pub edges_cut : (m n bits : ℕ) (now : Time) (o : Outcome) → edges (unpacked 
 edges_cut m n bits now o = ap (λ (bs : List Bool). edges bs now o) (unpacked_append m n bits) ∙ edges_append (unpacked m (bits / 2 ^ n)) (unpacked n (bits % 2 ^ n)) now o
 
 -- events joined: nothing before, nothing after, and one after another
-none_then : (o p : Outcome) → o.event ≡ Event.None → and_then o p ≡ p
+none_then : (o p : Outcome) → o.event ≡ None → and_then o p ≡ p
 unfolding and_then or_else
 none_then o p h = simp h
 
-pub or_none : (e : Event) → or_else e Event.None ≡ e
+pub or_none : (e : Option Event) → or_else e None ≡ e
 unfolding or_else
-or_none Event.None = refl
-or_none (Event.Write at page column value) = refl
-or_none (Event.Control at command parameter) = refl
+or_none None = refl
+or_none (Some e) = refl
 
-pub or_or : (d e f : Event) → or_else (or_else d e) f ≡ or_else d (or_else e f)
+pub or_or : (d e f : Option Event) → or_else (or_else d e) f ≡ or_else d (or_else e f)
 unfolding or_else
-or_or Event.None e f = refl
-or_or (Event.Write at page column value) e f = refl
-or_or (Event.Control at command parameter) e f = refl
+or_or None e f = refl
+or_or (Some d) e f = refl
 
 then_quiet : (o : Outcome) → and_then o (quiet o.state o.ram o.icons) ≡ o
 unfolding and_then
@@ -193,7 +190,7 @@ whole (suc n) b now o t h r =
     ∙ whole n (b % 2 ^ suc n) now (with_state o (one_more o.state (bit_at b (suc n)))) (taking_bits o.state (shifted_in l (bit_at b (suc n))) (l.bits + 1) ∙ t) (omega arith) (mod-lt b (pow_pos (suc n)))
     ∙ ap (λ (v : ℕ). and_then o (performed (byte_taken (with_serial o.state (with_bits l 0 0)) v now o.ram o.icons) o.ram o.icons)) (joined_bit l.shift (suc n) b r)
 
-pub edges_whole : (n b : ℕ) (now : Time) (o : Outcome) → taking o.state ≡ true → o.state.serial.bits + n ≡ 8 → 0 < n → b < 2 ^ n → o.event ≡ Event.None → edges (unpacked n b) now o ≡ performed (whole_byte o.state n b now o.ram o.icons) o.ram o.icons
+pub edges_whole : (n b : ℕ) (now : Time) (o : Outcome) → taking o.state ≡ true → o.state.serial.bits + n ≡ 8 → 0 < n → b < 2 ^ n → o.event ≡ None → edges (unpacked n b) now o ≡ performed (whole_byte o.state n b now o.ram o.icons) o.ram o.icons
 edges_whole zero b now o t h p r e = absurd (omega arith)
 edges_whole (suc n) b now o t h p r e = whole n b now o t h r ∙ none_then o _ e
 
@@ -229,7 +226,7 @@ edges_over x count bits now ram icons t f h c r =
     ∙ edges_short rest (bits % 2 ^ rest) now (performed s ram icons) (byte_taking _ b now ram icons ∙ taking_bits x 0 0 ∙ t) (omega (arith, byte_bits x b now ram icons)) (omega (arith, byte_shift x b now ram icons)) (mod-lt bits (pow_pos rest))
 
 -- a state that passes its checks passes them with other bits under way, and after an edge
-pub bits_valid : (x : Nt7508) (s k : ℕ) (now : Time) (ram icons : List ℕ) → k < 8 → check_lent x now ram icons ≡ none → check_lent (with_serial x (with_bits x.serial s k)) now ram icons ≡ none
+pub bits_valid : (x : Nt7508) (s k : ℕ) (now : Time) (ram icons : List ℕ) → k < 8 → check_lent x now ram icons ≡ None → check_lent (with_serial x (with_bits x.serial s k)) now ram icons ≡ None
 unfolding with_serial valid_serial
 bits_valid x s k now ram icons h l =
     let c = called x now ram icons l in
@@ -242,27 +239,21 @@ bits_valid x s k now ram icons h l =
     })
 
 -- seven bits at the most are under way
-pub bits_below_lem : (x : Nt7508) (now : Time) (ram icons : List ℕ) → check_lent x now ram icons ≡ none → x.serial.bits < 8
+pub bits_below_lem : (x : Nt7508) (now : Time) (ram icons : List ℕ) → check_lent x now ram icons ≡ None → x.serial.bits < 8
 unfolding valid_serial
 bits_below_lem x now ram icons l = ltb-true _ _ (both _ _ (valid x (called x now ram icons l).state).serial).0
 
-memory_after : (s : Store) (ram icons : List ℕ) → memory_ok (ram_after s ram) (icons_after s icons) ≡ memory_ok ram icons
-unfolding memory_ok
-memory_after Store.Nothing ram icons = refl
-memory_after (Store.Ram at v) ram icons = simp length-set
-memory_after (Store.Icon at v) ram icons = simp length-set
-
 -- a state that passes goes with what a byte stored
-stored_valid : (x : Nt7508) (s : Stepped) (now : Time) (ram icons : List ℕ) → check_lent x now ram icons ≡ none → check_state s.state ≡ none → check_lent s.state now (ram_after s.store ram) (icons_after s.store icons) ≡ none
+stored_valid : (x : Nt7508) (s : Stepped) (now : Time) (ram icons : List ℕ) → check_lent x now ram icons ≡ None → check_state s.state ≡ None → check_lent s.state now (ram_after s.store ram) (icons_after s.store icons) ≡ None
 stored_valid x s now ram icons l h =
     let c = called x now ram icons l in
-    called_check s.state now _ _ (record { memory = memory_after s.store ram icons ∙ c.memory; in_range_lem = c.in_range_lem; state = h })
+    called_check s.state now _ _ (record { memory = stored_memory s.store ram icons ∙ c.memory; in_range_lem = c.in_range_lem; state = h })
 
-pub edge_valid : (x : Nt7508) (bit : Bool) (now : Time) (ram icons : List ℕ) → check_lent x now ram icons ≡ none → check_lent (edge x bit now ram icons).state now (edge x bit now ram icons).ram (edge x bit now ram icons).icons ≡ none
+pub edge_valid : (x : Nt7508) (bit : Bool) (now : Time) (ram icons : List ℕ) → check_lent x now ram icons ≡ None → check_lent (edge x bit now ram icons).state now (edge x bit now ram icons).ram (edge x bit now ram icons).icons ≡ None
 unfolding edge bit_taken
 edge_valid x bit now ram icons l = go (taking x) refl (eqb (x.serial.bits + 1) 8) refl
   where
-    go : (t : Bool) → taking x ≡ t → (e : Bool) → eqb (x.serial.bits + 1) 8 ≡ e → check_lent (edge x bit now ram icons).state now (edge x bit now ram icons).ram (edge x bit now ram icons).icons ≡ none
+    go : (t : Bool) → taking x ≡ t → (e : Bool) → eqb (x.serial.bits + 1) 8 ≡ e → check_lent (edge x bit now ram icons).state now (edge x bit now ram icons).ram (edge x bit now ram icons).icons ≡ None
     go false p e q = simp p l
     go true p false q = simp (p, q) (bits_valid x (shifted_in x.serial bit) (x.serial.bits + 1) now ram icons (omega (arith, bits_below_lem x now ram icons l, eqb-false (x.serial.bits + 1) 8 q)) l)
     go true p true q =
@@ -270,13 +261,13 @@ edge_valid x bit now ram icons l = go (taking x) refl (eqb (x.serial.bits + 1) 8
         let b = shifted_in x.serial bit in
         simp (p, q) (stored_valid x (byte_taken y b now ram icons) now ram icons l (byte_valid y b now ram icons (mod-lt _ (omega arith)) (bits_valid x 0 0 now ram icons (omega arith) l)))
 
-pub edges_valid : (bs : List Bool) (now : Time) (o : Outcome) → check_lent o.state now o.ram o.icons ≡ none → check_lent (edges bs now o).state now (edges bs now o).ram (edges bs now o).icons ≡ none
+pub edges_valid : (bs : List Bool) (now : Time) (o : Outcome) → check_lent o.state now o.ram o.icons ≡ None → check_lent (edges bs now o).state now (edges bs now o).ram (edges bs now o).icons ≡ None
 unfolding edges and_then
 edges_valid [] now o l = l
 edges_valid (b ∷ bs) now o l = edges_valid bs now (and_then o (edge o.state b now o.ram o.icons)) (edge_valid o.state b now o.ram o.icons l)
 
 -- a group passes its checks where the call's other checks and its own row pass
-pub group_check : (x : Nt7508) (bits count : ℕ) (now : Time) (ram icons : List ℕ) → check_lent x now ram icons ≡ none → group_ok bits count ≡ true → check_group x bits count now ram icons ≡ none
+pub group_check : (x : Nt7508) (bits count : ℕ) (now : Time) (ram icons : List ℕ) → check_lent x now ram icons ≡ None → group_ok bits count ≡ true → check_group x bits count now ram icons ≡ None
 unfolding check_group in_order
 group_check x bits count now ram icons l g = let c = called x now ram icons l in simp (c.memory, c.in_range_lem, c.state, g)
 
@@ -294,7 +285,7 @@ cut_ok bits m n h =
     )
 
 -- a group that passes its checks is its edges
-pub group_passed : (x : Nt7508) (bits count : ℕ) (now : Time) (ram icons : List ℕ) → check_group x bits count now ram icons ≡ none → shift_in x bits count now ram icons ≡ (none, edges (unpacked count bits) now (quiet x ram icons))
+pub group_passed : (x : Nt7508) (bits count : ℕ) (now : Time) (ram icons : List ℕ) → check_group x bits count now ram icons ≡ None → shift_in x bits count now ram icons ≡ (None, edges (unpacked count bits) now (quiet x ram icons))
 unfolding shift_in
 group_passed x bits count now ram icons h = simp h
 
@@ -303,7 +294,7 @@ abbrev pub followed : Option ℕ × Outcome → (Outcome → Option ℕ × Outco
 followed a f = (first_of a.0 (f a.1).0, and_then a.1 (f a.1).1)
 
 -- a group is the same group cut in two
-pub group_cut : (x : Nt7508) (bits m n : ℕ) (now : Time) (ram icons : List ℕ) → check_group x bits (m + n) now ram icons ≡ none →
+pub group_cut : (x : Nt7508) (bits m n : ℕ) (now : Time) (ram icons : List ℕ) → check_group x bits (m + n) now ram icons ≡ None →
     shift_in x bits (m + n) now ram icons ≡ followed (shift_in x (bits / 2 ^ n) m now ram icons) (λ o. shift_in o.state (bits % 2 ^ n) n now o.ram o.icons)
 group_cut x bits m n now ram icons h =
     let g = grouped x bits (m + n) now ram icons h in
@@ -312,7 +303,7 @@ group_cut x bits m n now ram icons h =
     let l = edges_valid (unpacked m (bits / 2 ^ n)) now (quiet x ram icons) g.lent in
     let second : Outcome → Option ℕ × Outcome = λ o. shift_in o.state (bits % 2 ^ n) n now o.ram o.icons in
     group_passed x bits (m + n) now ram icons h
-    ∙ ap (λ (p : Outcome). (none, p)) (edges_cut m n bits now (quiet x ram icons) ∙ edges_then (unpacked n (bits % 2 ^ n)) now o)
+    ∙ ap (λ (p : Outcome). (None, p)) (edges_cut m n bits now (quiet x ram icons) ∙ edges_then (unpacked n (bits % 2 ^ n)) now o)
     ∙ sym (ap (λ (a : Option ℕ × Outcome). followed a second) (group_passed x (bits / 2 ^ n) m now ram icons (group_check x (bits / 2 ^ n) m now ram icons g.lent k.0))
     ∙ ap (λ (r : Option ℕ × Outcome). (r.0, and_then o r.1)) (group_passed o.state (bits % 2 ^ n) n now o.ram o.icons (group_check o.state (bits % 2 ^ n) n now o.ram o.icons l k.1)))
 

@@ -10,9 +10,9 @@ use lib.Arith.{digits_div}
 use lib.Dec.{eqb}
 use lib.ListN.{length, length-set}
 use borrow.Author.Tests.{eqb-true, eqb-false}
+use Rattle.std.specs.Prelude.{Option, Some, None}
 use Rattle.clock.specs.declared.time.Time.{Time}
 use Rattle.scan.specs.declared.settings.Settings.{Settings}
-use Rattle.scan.specs.declared.latch.DataPage.{DataPage}
 use Rattle.scan.specs.Check.{memory_ok}
 use Rattle.scan.proofs.Latches.{data_outside, icon_outside}
 use Rattle.scan.specs.declared.state.Scan.{Scan}
@@ -22,9 +22,7 @@ use Rattle.scan.specs.Run.{running_after, updated}
 use Rattle.scan.specs.Drive.{runs}
 use Rattle.controller.specs.declared.state.Nt7508.{Nt7508}
 use Rattle.controller.specs.declared.state.Address.{Address}
-use Rattle.controller.specs.declared.state.Pending.{Pending}
 use Rattle.controller.specs.declared.event.Event.{Event}
-use Rattle.controller.specs.declared.event.Parameter.{Parameter}
 use Rattle.controller.specs.declared.event.Store.{Store}
 use Rattle.controller.specs.declared.event.Stepped.{Stepped}
 use Rattle.controller.specs.State.{with_scan, with_address, with_serial}
@@ -34,18 +32,18 @@ use Rattle.controller.specs.Command.{with_pending, acted, parameter_taken, comma
 use Rattle.controller.specs.Byte.{conditions_of, store_of, data_step, page_sent, found, step_of, settled_by, byte_taken}
 
 -- a command byte, with whether it awaits a parameter given
-abbrev pub command_taken : Nt7508 → Pending → (b : ℕ) → Time → (awaiting : Bool) → Stepped
-command_taken x (Pending.Command c) b now t = record { state = parameter_taken x c b; event = Event.Control now c (Parameter.Byte b); store = Store.Nothing }
-command_taken x Pending.None b now t =
+abbrev pub command_taken : Nt7508 → Option ℕ → (b : ℕ) → Time → (awaiting : Bool) → Stepped
+command_taken x (Some c) b now t = record { state = parameter_taken x c b; event = Some (Event.Control now c (Some b)); store = None }
+command_taken x None b now t =
     cond t
-    (record { state = with_serial x (with_pending x.serial (Pending.Command b)); event = Event.None; store = Store.Nothing })
-    (record { state = acted x b; event = Event.Control now b Parameter.None; store = Store.Nothing })
+    (record { state = with_serial x (with_pending x.serial (Some b)); event = None; store = None })
+    (record { state = acted x b; event = Some (Event.Control now b None); store = None })
 
 -- a byte's action, with its tests given
-command_is : (x : Nt7508) (p : Pending) (b : ℕ) (now : Time) → command_step x p b now ≡ command_taken x p b now (awaits b)
+command_is : (x : Nt7508) (p : Option ℕ) (b : ℕ) (now : Time) → command_step x p b now ≡ command_taken x p b now (awaits b)
 unfolding command_step
-command_is x Pending.None b now = refl
-command_is x (Pending.Command c) b now = refl
+command_is x None b now = refl
+command_is x (Some c) b now = refl
 
 pub step_is : (x : Nt7508) (b : ℕ) (now : Time) → step_of x b now ≡ cond x.serial.«data» (data_step x b now) (command_taken x x.serial.pending b now (awaits b))
 unfolding step_of
@@ -70,11 +68,11 @@ pub step_scan : (x : Nt7508) (z : Scan) (b : ℕ) (now : Time) → step_of (with
 unfolding data_step acted parameter_taken with_scan with_address with_serial
 step_scan x z b now = step_is (with_scan x z) b now ∙ go x.serial.«data» x.serial.pending (awaits b) ∙ ap (λ (s : Stepped). beside_scan s z) (sym (step_is x b now))
   where
-    go : (d : Bool) (p : Pending) (t : Bool) → cond d (data_step (with_scan x z) b now) (command_taken (with_scan x z) p b now t) ≡ beside_scan (cond d (data_step x b now) (command_taken x p b now t)) z
+    go : (d : Bool) (p : Option ℕ) (t : Bool) → cond d (data_step (with_scan x z) b now) (command_taken (with_scan x z) p b now t) ≡ beside_scan (cond d (data_step x b now) (command_taken x p b now t)) z
     go true p t = refl
-    go false (Pending.Command c) t = refl
-    go false Pending.None true = refl
-    go false Pending.None false = refl
+    go false (Some c) t = refl
+    go false None true = refl
+    go false None false = refl
 
 pub byte_parts : (x : Nt7508) (b : ℕ) (now : Time) (ram icons : List ℕ) → byte_taken x b now ram icons ≡ beside_scan (step_of x b now) (scan_after x b now ram icons)
 unfolding byte_taken settled_by found scan_after with_scan
@@ -83,63 +81,63 @@ byte_parts x b now ram icons =
     (step_scan x (scan_before x now ram icons) b now)
 
 -- whether a parameter is awaited
-abbrev pub is_awaiting : Pending → Bool
-is_awaiting Pending.None = false
-is_awaiting (Pending.Command c) = true
+abbrev pub is_awaiting : Option ℕ → Bool
+is_awaiting None = false
+is_awaiting (Some c) = true
 
 pub step_awaiting : (x : Nt7508) (b : ℕ) (now : Time)
     → is_awaiting (step_of x b now).state.serial.pending ≡ cond x.serial.«data» (is_awaiting x.serial.pending) (not (is_awaiting x.serial.pending) && awaits b)
 unfolding data_step acted parameter_taken with_address with_serial
 step_awaiting x b now = ap (λ (s : Stepped). is_awaiting s.state.serial.pending) (step_is x b now) ∙ go x.serial.«data» x.serial.pending (awaits b) refl
   where
-    go : (d : Bool) (p : Pending) (t : Bool) → x.serial.pending ≡ p → is_awaiting (cond d (data_step x b now) (command_taken x p b now t)).state.serial.pending ≡ cond d (is_awaiting p) (not (is_awaiting p) && t)
+    go : (d : Bool) (p : Option ℕ) (t : Bool) → x.serial.pending ≡ p → is_awaiting (cond d (data_step x b now) (command_taken x p b now t)).state.serial.pending ≡ cond d (is_awaiting p) (not (is_awaiting p) && t)
     go true p t e = ap is_awaiting e
-    go false (Pending.Command c) t e = refl
-    go false Pending.None true e = refl
-    go false Pending.None false e = refl
+    go false (Some c) t e = refl
+    go false None true e = refl
+    go false None false e = refl
 
 -- data has the action of data, and nothing but data stores
 pub step_data : (x : Nt7508) (b : ℕ) (now : Time) → x.serial.«data» ≡ true → step_of x b now ≡ data_step x b now
 unfolding step_of
 step_data x b now d = ap (λ (t : Bool). cond t (data_step x b now) (command_step x x.serial.pending b now)) d
 
-pub step_stores : (x : Nt7508) (b : ℕ) (now : Time) → x.serial.«data» ≡ false → (step_of x b now).store ≡ Store.Nothing
+pub step_stores : (x : Nt7508) (b : ℕ) (now : Time) → x.serial.«data» ≡ false → (step_of x b now).store ≡ None
 step_stores x b now d = ap (λ (s : Stepped). s.store) (step_is x b now) ∙ go x.serial.«data» x.serial.pending (awaits b) d
   where
-    go : (d : Bool) (p : Pending) (t : Bool) → d ≡ false → (cond d (data_step x b now) (command_taken x p b now t)).store ≡ Store.Nothing
+    go : (d : Bool) (p : Option ℕ) (t : Bool) → d ≡ false → (cond d (data_step x b now) (command_taken x p b now t)).store ≡ None
     go true p t e = absurd (false≢true (sym e))
-    go false (Pending.Command c) t e = refl
-    go false Pending.None true e = refl
-    go false Pending.None false e = refl
+    go false (Some c) t e = refl
+    go false None true e = refl
+    go false None false e = refl
 
 -- a command that awaits nothing, is no parameter and leaves every register as it was leaves the state
 pub step_idle : (x : Nt7508) (b : ℕ) (now : Time) → x.serial.«data» ≡ false → is_awaiting x.serial.pending ≡ false → awaits b ≡ false → acted x b ≡ x → (step_of x b now).state ≡ x
 step_idle x b now d p t same = ap (λ (s : Stepped). s.state) (step_is x b now) ∙ go x.serial.«data» x.serial.pending (awaits b) d p t
   where
-    go : (d : Bool) (p : Pending) (t : Bool) → d ≡ false → is_awaiting p ≡ false → t ≡ false → (cond d (data_step x b now) (command_taken x p b now t)).state ≡ x
+    go : (d : Bool) (p : Option ℕ) (t : Bool) → d ≡ false → is_awaiting p ≡ false → t ≡ false → (cond d (data_step x b now) (command_taken x p b now t)).state ≡ x
     go true p t e f g = absurd (false≢true (sym e))
-    go false (Pending.Command c) t e f g = absurd (false≢true (sym f))
-    go false Pending.None true e f g = absurd (false≢true (sym g))
-    go false Pending.None false e f g = same
+    go false (Some c) t e f g = absurd (false≢true (sym f))
+    go false None true e f g = absurd (false≢true (sym g))
+    go false None false e f g = same
 
 -- a data byte for a row that is not shown changes nothing that is shown
 pub store_outside : (a : Address) (b : ℕ) (z : Scan) (s : Settings) (ram icons : List ℕ)
-    → affects (DataPage.Page a.page) (latched_row z) ≡ false → shown z s (ram_after (store_of a b) ram) (icons_after (store_of a b) icons) ≡ shown z s ram icons
+    → affects (Some a.page) (latched_row z) ≡ false → shown z s (ram_after (Some (store_of a b)) ram) (icons_after (Some (store_of a b)) icons) ≡ shown z s ram icons
 unfolding store_of
 store_outside a b z s ram icons h = go (eqb a.page 16) refl
   where
     go : (t : Bool) → eqb a.page 16 ≡ t
-        → shown z s (ram_after (cond t (Store.Icon (a.column_byte % 256) (b % 2)) (Store.Ram (a.page % 16 * 256 + a.column_byte % 256) b)) ram)
-        (icons_after (cond t (Store.Icon (a.column_byte % 256) (b % 2)) (Store.Ram (a.page % 16 * 256 + a.column_byte % 256) b)) icons)
+        → shown z s (ram_after (Some (cond t (Store.Icon (a.column_byte % 256) (b % 2)) (Store.Ram (a.page % 16 * 256 + a.column_byte % 256) b))) ram)
+        (icons_after (Some (cond t (Store.Icon (a.column_byte % 256) (b % 2)) (Store.Ram (a.page % 16 * 256 + a.column_byte % 256) b))) icons)
         ≡ shown z s ram icons
-    go true e = icon_outside z s ram icons (a.column_byte % 256) (b % 2) (ap (λ (page : ℕ). affects (DataPage.Page page) (latched_row z)) (sym (eqb-true a.page 16 e)) ∙ h)
+    go true e = icon_outside z s ram icons (a.column_byte % 256) (b % 2) (ap (λ (page : ℕ). affects (Some page) (latched_row z)) (sym (eqb-true a.page 16 e)) ∙ h)
     go false e =
         data_outside z s ram icons a.page (a.page % 16 * 256 + a.column_byte % 256) b (eqb-false a.page 16 e)
         (digits_div (a.page % 16) (mod-lt a.column_byte {m = 256} (omega arith))) h
 
 -- a store leaves the lengths of memory
-pub stored_memory : (s : Store) (ram icons : List ℕ) → memory_ok (ram_after s ram) (icons_after s icons) ≡ memory_ok ram icons
+pub stored_memory : (s : Option Store) (ram icons : List ℕ) → memory_ok (ram_after s ram) (icons_after s icons) ≡ memory_ok ram icons
 unfolding memory_ok
-stored_memory Store.Nothing ram icons = refl
-stored_memory (Store.Ram at v) ram icons = ap (λ (n : ℕ). eqb n 4096 && eqb (length icons) 256) (length-set ram at v)
-stored_memory (Store.Icon at v) ram icons = ap (λ (n : ℕ). eqb (length ram) 4096 && eqb n 256) (length-set icons at v)
+stored_memory None ram icons = refl
+stored_memory (Some (Store.Ram at v)) ram icons = ap (λ (n : ℕ). eqb n 4096 && eqb (length icons) 256) (length-set ram at v)
+stored_memory (Some (Store.Icon at v)) ram icons = ap (λ (n : ℕ). eqb (length ram) 4096 && eqb n 256) (length-set icons at v)

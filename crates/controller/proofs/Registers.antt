@@ -7,6 +7,7 @@ use native.Mathlib.Nat.{mod-lt, zero-lt-suc}
 use native.Mathlib.Omega.{arith}
 use lib.Dec.{leb, ltb, eqb}
 use borrow.Author.Tests.{lt-ltb, le-leb, leb-true, ne_eqb, eqb-false}
+use Rattle.std.specs.Prelude.{Option, Some, None}
 use Rattle.checks.proofs.Tests.{both}
 use Rattle.clock.specs.declared.time.Time.{Time}
 use Rattle.scan.specs.declared.settings.Settings as scan
@@ -16,9 +17,7 @@ use Rattle.voltage.specs.declared.Settings as voltage
 use Rattle.voltage.specs.Check.{valid_booster}
 use Rattle.voltage.specs.Check as analog
 use Rattle.controller.specs.declared.state.Nt7508.{Nt7508}
-use Rattle.controller.specs.declared.state.Pending.{Pending}
 use Rattle.controller.specs.declared.state.Address.{Address}
-use Rattle.controller.specs.declared.state.SavedColumn.{SavedColumn}
 use Rattle.controller.specs.Check.{between, awaits, valid_pending, valid_serial, valid_saved, valid_address, valid_power}
 use Rattle.controller.specs.Command.{is_reset, display_after, analog_after, power_after, column_set, column_or, address_after, lines_of, display_with, analog_with, with_pending, acted, parameter_taken, command_step}
 use Rattle.controller.specs.State.{with_serial}
@@ -124,10 +123,10 @@ column_below b column h =
     stays (λ n. ltb n 256) (leb b 0x0f) ((column / 32 % 8 * 16 + b) * 2) _ (λ e. lt-ltb ((column / 32 % 8 * 16 + b) * 2) 256 (omega (arith, leb-true b 15 e)))
     (stays (λ n. ltb n 256) (between 0x10 0x17 b) ((b % 8 * 16 + column / 2 % 16) * 2) column (λ e. lt-ltb ((b % 8 * 16 + column / 2 % 16) * 2) 256 (omega arith)) h)
 
-back_below : (saved : SavedColumn) (column : ℕ) → valid_saved saved ≡ true → ltb column 256 ≡ true → ltb (column_or saved column) 256 ≡ true
+back_below : (saved : Option ℕ) (column : ℕ) → valid_saved saved ≡ true → ltb column 256 ≡ true → ltb (column_or saved column) 256 ≡ true
 unfolding valid_saved column_or
-back_below SavedColumn.None column s h = h
-back_below (SavedColumn.Column c) column s h = s
+back_below None column s h = h
+back_below (Some c) column s h = s
 
 module _ (a : Address) (b : ℕ) (ok : valid_address a ≡ true) where
   address_after_lem : valid_address (address_after a b) ≡ true
@@ -150,18 +149,18 @@ module _ (a : Address) (b : ℕ) (ok : valid_address a ≡ true) where
 
       saved : ltb a.column_byte 256 ≡ true → valid_saved a.saved_column ≡ true → valid_saved (address_after a b).saved_column ≡ true
       saved below s =
-          stays valid_saved (is_reset b || eqb b 0xee) SavedColumn.None _ (λ e. refl)
-          (stays valid_saved (eqb b 0xe0) (SavedColumn.Column a.column_byte) a.saved_column (λ e. below) s)
+          stays valid_saved (is_reset b || eqb b 0xee) None _ (λ e. refl)
+          (stays valid_saved (eqb b 0xe0) (Some a.column_byte) a.saved_column (λ e. below) s)
 
 module _ (x : Nt7508) (v : Valid x) where
-  with_pending_lem : (p : Pending) → valid_pending p ≡ true → valid_serial (with_pending x.serial p) ≡ true
+  with_pending_lem : (p : Option ℕ) → valid_pending p ≡ true → valid_serial (with_pending x.serial p) ≡ true
   unfolding valid_serial
   with_pending_lem p h = simp ((both (ltb x.serial.bits 8) _ v.serial).0, h)
 
   acted_valid : (b : ℕ) → Valid (acted x b)
   unfolding acted valid_pending valid_power power_after
   acted_valid b = record {
-    serial = with_pending_lem Pending.None refl;
+    serial = with_pending_lem None refl;
     address = address_after_lem x.address b v.address;
     display = display_after_lem x.display b v.display;
     analog = analog_after_lem x.analog b v.analog;
@@ -172,7 +171,7 @@ module _ (x : Nt7508) (v : Valid x) where
   parameter_valid : (c b : ℕ) → Valid (parameter_taken x c b)
   unfolding parameter_taken valid_pending
   parameter_valid c b = record {
-    serial = with_pending_lem Pending.None refl;
+    serial = with_pending_lem None refl;
     address = v.address;
     display = display_with_lem x.display c b v.display;
     analog = analog_with_lem x.analog c b v.analog;
@@ -180,10 +179,10 @@ module _ (x : Nt7508) (v : Valid x) where
     scan = v.scan;
   }
 
-  awaiting_valid : (b : ℕ) → awaits b ≡ true → Valid (with_serial x (with_pending x.serial (Pending.Command b)))
+  awaiting_valid : (b : ℕ) → awaits b ≡ true → Valid (with_serial x (with_pending x.serial (Some b)))
   unfolding with_serial valid_pending
   awaiting_valid b h = record {
-    serial = with_pending_lem (Pending.Command b) h;
+    serial = with_pending_lem (Some b) h;
     address = v.address;
     display = v.display;
     analog = v.analog;
@@ -193,23 +192,23 @@ module _ (x : Nt7508) (v : Valid x) where
 
 -- a property after a parameter, after a byte that awaits one and after any other byte is one after a command byte
 module _ (x : Nt7508) (b : ℕ) (now : Time) where
-  stepped : (P : Nt7508 → Type 0) → ((c : ℕ) → P (parameter_taken x c b)) → (awaits b ≡ true → P (with_serial x (with_pending x.serial (Pending.Command b)))) → P (acted x b) → P (command_step x x.serial.pending b now).state
+  stepped : (P : Nt7508 → Type 0) → ((c : ℕ) → P (parameter_taken x c b)) → (awaits b ≡ true → P (with_serial x (with_pending x.serial (Some b)))) → P (acted x b) → P (command_step x x.serial.pending b now).state
   unfolding command_step
   stepped P taken awaiting other = go x.serial.pending
     where
-      by_await : (t : Bool) → awaits b ≡ t → P (command_step x Pending.None b now).state
+      by_await : (t : Bool) → awaits b ≡ t → P (command_step x None b now).state
       by_await true e = rw e (awaiting e)
       by_await false e = rw e other
 
-      go : (p : Pending) → P (command_step x p b now).state
-      go (Pending.Command c) = taken c
-      go Pending.None = by_await (awaits b) refl
+      go : (p : Option ℕ) → P (command_step x p b now).state
+      go (Some c) = taken c
+      go None = by_await (awaits b) refl
 
   pub command_valid : b < 256 → Valid x → Valid (command_step x x.serial.pending b now).state
   command_valid fits v = stepped Valid (λ c. parameter_valid x v c b) (awaiting_valid x v b) (acted_valid x v b)
 
 -- E3 leaves every register as it was
-pub nop_acted : (x : Nt7508) → x.serial.pending ≡ Pending.None → acted x 0xe3 ≡ x
+pub nop_acted : (x : Nt7508) → x.serial.pending ≡ None → acted x 0xe3 ≡ x
 unfolding acted display_after analog_after power_after address_after
 nop_acted x h = λ i. record {
   scan = x.scan;

@@ -2,9 +2,11 @@
 -- checks passes them still.
 use Prim.Native.Nat.{ℕ}
 use mathlib.Core.Bool.{Bool, true, false, cond, not, ◌&&◌, ◌||◌, beq, false≢true}
-use mathlib.Core.Option.{none}
+use Rattle.std.specs.Prelude.{Option, Some, None}
 use mathlib.Core.Path.{◌≡◌, refl, sym}
 use lib.Dec.{ltb, eqb}
+use borrow.Author.Tests.{eqb-true, eq-eqb}
+use Rattle.std.specs.Option.{option_eq}
 use lib.IntN.{ℤ}
 use Rattle.checks.proofs.Tests.{both}
 use Rattle.clock.specs.declared.time.Time.{Time}
@@ -18,7 +20,6 @@ use Rattle.scan.proofs.Runs.{stopped_valid, resumed_valid}
 use Rattle.controller.specs.declared.state.Nt7508.{Nt7508}
 use Rattle.controller.specs.declared.state.Serial.{Serial}
 use Rattle.controller.specs.declared.state.Power.{Power}
-use Rattle.controller.specs.declared.state.Ready.{Ready}
 use Rattle.controller.specs.State.{power_on, with_power, with_serial}
 use Rattle.controller.specs.Check.{valid_pending, valid_serial, supplied_at, valid_power, valid_state, check_state, check_moment}
 use Rattle.controller.specs.Byte.{conditions_of}
@@ -35,12 +36,25 @@ selected_serial l on h = go (beq l.selected on)
     go true = h
     go false = (both (ltb l.bits 8) (valid_pending l.pending) h).1
 
-deadline_power : (p : Power) (ready : Ready) (now : Time) → valid_power p ≡ true → valid_power (deadline_met p ready now) ≡ true
+-- a wait that ends at the moment, by the equality of times that the derive gives
+abbrev same_parts : Time → Time → Bool
+same_parts s t = eqb s.seconds t.seconds && eqb s.fraction t.fraction
+
+pub wait_met : (p : Power) (ready : Option Time) (now : Time) → option_eq same_parts ready (Some now) ≡ true → with_ready p false None ≡ deadline_met p ready now
+unfolding deadline_met
+wait_met p None now h = absurd (false≢true h)
+wait_met p (Some t) now h =
+    let parts = both _ _ h in
+    let seconds = eqb-true t.seconds now.seconds parts.0 in
+    let fraction = eqb-true t.fraction now.fraction parts.1 in
+    rw (eq-eqb (raw t) (raw now) (rw (seconds, fraction)))
+
+deadline_power : (p : Power) (ready : Option Time) (now : Time) → valid_power p ≡ true → valid_power (deadline_met p ready now) ≡ true
 unfolding deadline_met valid_power
-deadline_power p Ready.Now now h = h
-deadline_power p (Ready.At t) now h = go (eqb (raw t) (raw now))
+deadline_power p None now h = h
+deadline_power p (Some t) now h = go (eqb (raw t) (raw now))
   where
-    go : (met : Bool) → valid_power (cond met (with_ready p false Ready.Now) p) ≡ true
+    go : (met : Bool) → valid_power (cond met (with_ready p false None) p) ≡ true
     go true = h
     go false = h
 
@@ -60,7 +74,7 @@ module _ (x : Nt7508) where
   deadline_valid now v = with_power_valid x v (deadline_met x.power x.power.ready now) (deadline_power x.power x.power.ready now v.power)
 
   -- cold and the wait are not checked
-  ready_valid : (cold : Bool) (ready : Ready) → Valid x → Valid (with_power x (with_ready x.power cold ready))
+  ready_valid : (cold : Bool) (ready : Option Time) → Valid x → Valid (with_power x (with_ready x.power cold ready))
   unfolding valid_power
   ready_valid cold ready v = with_power_valid x v (with_ready x.power cold ready) v.power
 
@@ -72,7 +86,7 @@ chilled_valid : (x : Nt7508) (millivolts : ℕ) → Valid x → Valid (chilled x
 chilled_valid x millivolts v = ready_valid x (x.power.cold || eqb millivolts 0) x.power.ready v
 
 -- the checks of a rise pass where those of the call do
-pub chilled_timed : (x : Nt7508) (millivolts : ℕ) (now : Time) → check_moment x now ≡ none → check_moment (chilled x millivolts) now ≡ none
+pub chilled_timed : (x : Nt7508) (millivolts : ℕ) (now : Time) → check_moment x now ≡ None → check_moment (chilled x millivolts) now ≡ None
 unfolding check_moment check_state valid_state valid_power with_power
 chilled_timed x millivolts now h = h
 
@@ -110,7 +124,7 @@ module _ (x : Nt7508) (millivolts : ℕ) (now : Time) where
       go false true f r = absurd (false≢true (sym r))
       go false false f r = refl
 
-module _ (x : Nt7508) (now : Time) (h : check_moment x now ≡ none) where
+module _ (x : Nt7508) (now : Time) (h : check_moment x now ≡ None) where
   fallen_valid : Valid (fallen x now)
   unfolding fallen valid_power
   fallen_valid =
@@ -153,7 +167,7 @@ rail_fits millivolts = go (supplied_at millivolts)
     go true = refl
     go false = refl
 
-module _ (x : Nt7508) (millivolts : ℕ) (now : Time) (h : check_moment x now ≡ none) where
+module _ (x : Nt7508) (millivolts : ℕ) (now : Time) (h : check_moment x now ≡ None) where
   switched_valid : Valid (switched x millivolts now)
   unfolding switched
   switched_valid = go x.power.supplied (supplied_at millivolts)

@@ -1,20 +1,20 @@
 -- A byte in one call of the scan: what it does to the registers that the scan reads, the scan after it by memory that does not hold
 -- the byte yet, and the refusals of a group in the order in which its code meets them.
 use Prim.Native.Nat.{ℕ, ◌+◌, ◌-◌, ◌*◌, ◌/◌, ◌%◌, ◌^◌, ◌≤◌, ◌<◌}
-use mathlib.Core.Bool.{Bool, true, false, cond, ◌&&◌, false≢true}
+use mathlib.Core.Bool.{Bool, true, false, cond, ◌&&◌}
 use mathlib.Core.List.{List}
-use mathlib.Core.Option.{Option, none, some}
 use mathlib.Core.Path.{◌≡◌, refl, sym, ◌∙◌, ap, ap₂}
 use native.Mathlib.Omega.{arith}
 use lib.Dec.{leb, ltb}
 use borrow.Author.Tests.{lt-ltb, ltb-true, leb-true, leb-false}
-use Rattle.checks.specs.Checks.{row, first_of, unless_refused, changed}
+use Rattle.std.specs.Prelude.{Option, Some, None, Result, Ok, Err}
+use Rattle.checks.specs.Checks.{row, first_of, changed, left_by}
 use Rattle.checks.proofs.Chains.{first_passed, row_passed}
+use Rattle.checks.proofs.Results.{left_at_ok, left_at_err}
 use Rattle.checks.proofs.Tests.{both}
 use Rattle.clock.specs.declared.time.Time.{Time}
 use Rattle.clock.specs.Time.{in_range}
-use Rattle.scan.specs.declared.check.Check as scans
-use Rattle.scan.specs.declared.check.Refusal.{Refusal}
+use Rattle.scan.specs.declared.check.Refusal as scans
 use Rattle.scan.specs.declared.settings.Settings.{Settings}
 use Rattle.scan.specs.declared.state.Scan.{Scan}
 use Rattle.scan.specs.Check as display
@@ -22,21 +22,19 @@ use Rattle.scan.specs.Check.{memory_ok, check_scan}
 use Rattle.scan.specs.Drive.{runs, drive_at, frame_at, off, drive_scan}
 use Rattle.voltage.specs.Check as analog
 use Rattle.scan.specs.Run.{running_after, updated, byte_scan}
-use Rattle.controller.specs.declared.check.Check.{Check}
-use Rattle.controller.specs.declared.check.Refusal as refusals
+use Rattle.controller.specs.declared.check.Refusal.{Refusal}
 use Rattle.controller.specs.declared.state.Nt7508.{Nt7508}
-use Rattle.controller.specs.declared.state.Pending.{Pending}
 use Rattle.controller.specs.declared.state.Power.{Power}
 use Rattle.controller.specs.declared.event.Stepped.{Stepped}
 use Rattle.controller.specs.State.{power_on, with_scan, with_address, with_serial}
-use Rattle.controller.specs.Check.{refused, awaits, valid_pending, valid_serial, valid_state, check_state, group_ok, in_order, check_lent, check_group}
+use Rattle.controller.specs.Check.{number, awaits, valid_pending, valid_serial, valid_state, check_state, group_ok, in_order, check_group}
 use Rattle.controller.specs.Event.{unstored, ram_after, icons_after}
 use Rattle.controller.specs.Command.{display_after, power_after, acted, parameter_taken}
 use Rattle.controller.specs.Byte.{conditions_of, data_step, page_sent, step_of, byte_taken}
-use Rattle.controller.specs.Bits.{Outcome, taking, with_bits, quiet, performed, shift_in}
+use Rattle.controller.specs.Bits.{Outcome, taking, with_bits, performed, taken, shift_in}
 use Rattle.controller.specs.Look.{levels_of, drive_of}
-use Rattle.controller.specs.Closed.{lent_ok, registers_ok, completes, display_by, display_then, power_by, power_then, running_by}
-use Rattle.controller.proofs.Checks.{Valid, valid, called, grouped, first_none, refused_answer}
+use Rattle.controller.specs.Closed.{check_but_scan, registers_ok, completes, display_by, display_then, power_by, power_then, running_by}
+use Rattle.controller.proofs.Checks.{Valid, valid, called, grouped, first_none, lent_chain}
 use Rattle.controller.proofs.PowerOn.{power_on_valid}
 use Rattle.controller.proofs.Bytes.{updated_unread, step_valid}
 use Rattle.controller.proofs.Groups.{grown_by, whole_byte, byte_bits, edges_over, group_bounds, group_passed}
@@ -44,7 +42,7 @@ use Rattle.controller.proofs.Parts.{command_taken, step_is, scan_before, scan_af
 
 -- ---- the registers that the scan reads
 module _ (x : Nt7508) (b : ℕ) (now : Time) where
-  awaited_display : (t : Bool) → (command_taken x Pending.None b now t).state.display ≡ cond t x.display (display_after x.display b)
+  awaited_display : (t : Bool) → (command_taken x None b now t).state.display ≡ cond t x.display (display_after x.display b)
   unfolding acted with_serial
   awaited_display true = refl
   awaited_display false = refl
@@ -53,12 +51,12 @@ module _ (x : Nt7508) (b : ℕ) (now : Time) where
   unfolding data_step parameter_taken with_address display_then display_by
   step_display = ap (λ (s : Stepped). s.state.display) (step_is x b now) ∙ go x.serial.«data» x.serial.pending
     where
-      go : (d : Bool) (p : Pending) → (cond d (data_step x b now) (command_taken x p b now (awaits b))).state.display ≡ cond d x.display (display_by p x.display b)
+      go : (d : Bool) (p : Option ℕ) → (cond d (data_step x b now) (command_taken x p b now (awaits b))).state.display ≡ cond d x.display (display_by p x.display b)
       go true p = refl
-      go false (Pending.Command c) = refl
-      go false Pending.None = awaited_display (awaits b)
+      go false (Some c) = refl
+      go false None = awaited_display (awaits b)
 
-  awaited_power : (t : Bool) → (command_taken x Pending.None b now t).state.power ≡ cond t x.power (power_after x.power b)
+  awaited_power : (t : Bool) → (command_taken x None b now t).state.power ≡ cond t x.power (power_after x.power b)
   unfolding acted with_serial
   awaited_power true = refl
   awaited_power false = refl
@@ -67,21 +65,21 @@ module _ (x : Nt7508) (b : ℕ) (now : Time) where
   unfolding data_step parameter_taken with_address power_then power_by
   step_power = ap (λ (s : Stepped). s.state.power) (step_is x b now) ∙ go x.serial.«data» x.serial.pending
     where
-      go : (d : Bool) (p : Pending) → (cond d (data_step x b now) (command_taken x p b now (awaits b))).state.power ≡ cond d x.power (power_by p x.power b)
+      go : (d : Bool) (p : Option ℕ) → (cond d (data_step x b now) (command_taken x p b now (awaits b))).state.power ≡ cond d x.power (power_by p x.power b)
       go true p = refl
-      go false (Pending.Command c) = refl
-      go false Pending.None = awaited_power (awaits b)
+      go false (Some c) = refl
+      go false None = awaited_power (awaits b)
 
 -- ---- a state whose registers pass, with a scan that passes
 registers_scan : (x : Nt7508) (z : Scan) → valid_state (with_scan x z) ≡ valid_state x
 unfolding valid_state with_scan
 registers_scan x z = refl
 
-scan_of_lem : (x : Nt7508) (z : Scan) → check_scan z ≡ none → check_scan (with_scan x z).scan ≡ none
+scan_of_lem : (x : Nt7508) (z : Scan) → check_scan z ≡ None → check_scan (with_scan x z).scan ≡ None
 unfolding with_scan
 scan_of_lem x z e = e
 
-registers_check : (x : Nt7508) → valid_state x ≡ true → check_scan x.scan ≡ none → check_state x ≡ none
+registers_check : (x : Nt7508) → valid_state x ≡ true → check_scan x.scan ≡ None → check_state x ≡ None
 unfolding check_state
 registers_check x h e = ap₂ (λ (t : Bool) (c : Option ℕ). first_of (row 3 t) c) h e
 
@@ -140,18 +138,17 @@ module _ (x : Nt7508) (b : ℕ) (now : Time) (ram icons : List ℕ) where
     scan_byte = ap₂ (λ (c : Option ℕ) (z : Scan). changed c z x.scan) scan_check (sym scan_after_lem)
 
   -- and the byte is
-  module _ {k : scans.Check} {y : Scan} (e : (display.refused k, y) ≡ changed (check_scan x.scan) (scan_after x b now ram icons) x.scan) where
-    pub byte_refused : {why : Refusal} {r : Option ℕ} → k ≡ scans.Check.Refused why → r ≡ display.refused k → (r, unstored x) ≡ changed (check_scan x.scan) (byte_taken x b now ram icons) (unstored x)
-    byte_refused h er =
-        ap (λ (c : Option ℕ). (c, unstored x)) (er ∙ ap display.refused h)
-        ∙ sym (ap (λ (c : Option ℕ). changed c (byte_taken x b now ram icons) (unstored x)) (sym (ap (λ (p : Option ℕ × Scan). p.0) e) ∙ ap display.refused h))
+  module _ {r : Result Scan scans.Refusal} (e : display.answered x.scan r ≡ changed (check_scan x.scan) (scan_after x b now ram icons) x.scan) where
+    pub byte_refused : {why : scans.Refusal} (by : Refusal) → r ≡ Err why → number by ≡ display.number why → left_by number (unstored x) (Err by) ≡ changed (check_scan x.scan) (byte_taken x b now ram icons) (unstored x)
+    byte_refused by h n =
+        ap (λ (c : Option ℕ). (c, unstored x)) (ap Some n)
+        ∙ sym (ap (λ (c : Option ℕ). changed c (byte_taken x b now ram icons) (unstored x)) (left_at_err display.number r _ (scan_after x b now ram icons) x.scan e h))
 
-    pub byte_passed : k ≡ scans.Check.Passed → (none, step_of (with_scan x y) b now) ≡ changed (check_scan x.scan) (byte_taken x b now ram icons) (unstored x)
+    pub byte_passed : {y : Scan} → r ≡ Ok y → left_by number (unstored x) (Ok (step_of (with_scan x y) b now)) ≡ changed (check_scan x.scan) (byte_taken x b now ram icons) (unstored x)
     byte_passed h =
-        let passed : check_scan x.scan ≡ none = sym (ap (λ (p : Option ℕ × Scan). p.0) e) ∙ ap display.refused h in
-        let by_rule : y ≡ scan_after x b now ram icons = ap (λ (p : Option ℕ × Scan). p.1) e ∙ ap (λ (c : Option ℕ). unless_refused c (scan_after x b now ram icons) x.scan) passed in
-        ap (λ (s : Stepped). (none, s)) (ap (λ (z : Scan). step_of (with_scan x z) b now) by_rule ∙ step_scan x (scan_after x b now ram icons) b now ∙ sym (byte_parts x b now ram icons))
-        ∙ sym (ap (λ (c : Option ℕ). changed c (byte_taken x b now ram icons) (unstored x)) passed)
+        let p = left_at_ok display.number r _ (scan_after x b now ram icons) x.scan e h in
+        ap (λ (s : Stepped). (None, s)) (ap (λ (z : Scan). step_of (with_scan x z) b now) p.1 ∙ step_scan x (scan_after x b now ram icons) b now ∙ sym (byte_parts x b now ram icons))
+        ∙ sym (ap (λ (c : Option ℕ). changed c (byte_taken x b now ram icons) (unstored x)) p.0)
 
 -- ---- groups
 pub record RegistersOk (x : Nt7508) (bits count : ℕ) (now : Time) (ram icons : List ℕ) : Type 0 where
@@ -175,7 +172,7 @@ module _ (x : Nt7508) (bits count : ℕ) (now : Time) (ram icons : List ℕ) whe
   group_scan h = let g = registers_passed h in simp (g.memory, g.in_range_lem, g.registers_ok_lem, g.group_ok_lem) (first_none (check_scan x.scan))
 
   -- and the other rows of one that is not turned down pass
-  pub group_registers : check_group x bits count now ram icons ≡ none → registers_ok x bits count now ram icons ≡ true
+  pub group_registers : check_group x bits count now ram icons ≡ None → registers_ok x bits count now ram icons ≡ true
   unfolding registers_ok check_state
   group_registers h =
       let g = grouped x bits count now ram icons h in
@@ -201,76 +198,68 @@ not_completed x count h t = leb-false _ _ (simp t at h)
 pub second_fails : {a b r s : Bool} → r ≡ a → s ≡ b → a ≡ true → r && s ≡ false → b ≡ false
 second_fails er es h f = sym (ap₂ ◌&&◌ (er ∙ h) es) ∙ f
 
+-- a group goes on by less than a byte after the one that it completes
+pub rest_below : (x : Nt7508) (bits count : ℕ) (now : Time) (ram icons : List ℕ) → registers_ok x bits count now ram icons ≡ true → count - (8 - x.serial.bits) < 8
+rest_below x bits count now ram icons h =
+    let g = registers_passed x bits count now ram icons h in
+    omega (arith, bits_under x g.registers_ok_lem, (group_bounds bits count g.group_ok_lem).0)
+
+-- a group that is turned down
+pub group_refused : (x : Nt7508) (bits count : ℕ) (now : Time) (ram icons : List ℕ) (why : Refusal) → check_group x bits count now ram icons ≡ Some (number why) → taken x (Err why) ram icons ≡ shift_in x bits count now ram icons
+unfolding shift_in
+group_refused x bits count now ram icons why h = rw h
+
 -- a group that completes a byte, by what the byte answered
 module _ (x : Nt7508) (bits count : ℕ) (now : Time) (ram icons : List ℕ) (h : registers_ok x bits count now ram icons ≡ true) {y : Nt7508} (ey : y ≡ with_serial x (with_bits x.serial 0 0)) where
   same_scan : check_scan y.scan ≡ check_scan x.scan
   unfolding with_serial
   same_scan = ap (λ (y : Nt7508). check_scan y.scan) ey
 
-  module _ (v : ℕ) {k : Check} {s : Stepped} (e : (refused k, s) ≡ changed (check_scan y.scan) (byte_taken y v now ram icons) (unstored y)) where
-    pub whole_refused : {why : refusals.Refusal} → k ≡ Check.Refused why → (refused k, quiet x ram icons) ≡ shift_in x bits count now ram icons
-    unfolding shift_in
-    whole_refused hk = refused_answer (ap (λ (p : Option ℕ × Stepped). p.0) e ∙ same_scan ∙ sym (group_scan x bits count now ram icons h)) _ _ hk
+  module _ (v : ℕ) {r : Result Stepped Refusal} (e : left_by number (unstored y) r ≡ changed (check_scan y.scan) (byte_taken y v now ram icons) (unstored y)) where
+    pub whole_refused : {why : Refusal} → r ≡ Err why → taken x (Err why) ram icons ≡ shift_in x bits count now ram icons
+    whole_refused {why} hk = group_refused x bits count now ram icons why (group_scan x bits count now ram icons h ∙ sym same_scan ∙ left_at_err number r _ (byte_taken y v now ram icons) (unstored y) e hk)
 
-    module _ (hk : k ≡ Check.Passed) where
-      scan_passes : check_scan y.scan ≡ none
-      scan_passes = sym (ap (λ (p : Option ℕ × Stepped). p.0) e) ∙ ap refused hk
+    module _ {s : Stepped} (hk : r ≡ Ok s) where
+      answer_is : (check_scan y.scan ≡ None) × (s ≡ byte_taken y v now ram icons)
+      answer_is = left_at_ok number r _ (byte_taken y v now ram icons) (unstored y) e hk
 
       module _ (n b : ℕ) (ev : v ≡ (x.serial.shift * 2 ^ n + b) % 256) where
         byte_done : s ≡ whole_byte x n b now ram icons
-        byte_done =
-            ap (λ (p : Option ℕ × Stepped). p.1) e
-            ∙ ap (λ (c : Option ℕ). unless_refused c (byte_taken y v now ram icons) (unstored y)) scan_passes
-            ∙ ap₂ (λ (y : Nt7508) (v : ℕ). byte_taken y v now ram icons) ey ev
+        byte_done = answer_is.1 ∙ ap₂ (λ (y : Nt7508) (v : ℕ). byte_taken y v now ram icons) ey ev
 
         pub whole_bits : s.state.serial.bits ≡ 0
         whole_bits = ap (λ (s : Stepped). s.state.serial.bits) byte_done ∙ byte_bits x ((x.serial.shift * 2 ^ n + b) % 256) now ram icons
 
       pub whole_passed : completes x count ≡ true → v ≡ (x.serial.shift * 2 ^ (8 - x.serial.bits) + bits / 2 ^ (count - (8 - x.serial.bits))) % 256 →
           let rest = count - (8 - x.serial.bits) in
-          (none, performed (record { state = grown_by s.state rest (bits % 2 ^ rest); event = s.event; store = s.store }) ram icons) ≡ shift_in x bits count now ram icons
+          (None, performed (record { state = grown_by s.state rest (bits % 2 ^ rest); event = s.event; store = s.store }) ram icons) ≡ shift_in x bits count now ram icons
       whole_passed hc ev =
           let rest = count - (8 - x.serial.bits) in
           let g = registers_passed x bits count now ram icons h in
           let c = completed x count hc in
           let under = bits_under x g.registers_ok_lem in
           let b = group_bounds bits count g.group_ok_lem in
-          ap (λ (s : Stepped). (none, performed (record { state = grown_by s.state rest (bits % 2 ^ rest); event = s.event; store = s.store }) ram icons)) (byte_done (8 - x.serial.bits) (bits / 2 ^ rest) ev)
-          ∙ ap (λ (o : Outcome). (none, o)) (sym (edges_over x count bits now ram icons c.0 under (omega (arith, c.1)) b.0 b.1))
-          ∙ sym (group_passed x bits count now ram icons (group_scan x bits count now ram icons h ∙ sym same_scan ∙ scan_passes))
+          ap (λ (s : Stepped). (None, performed (record { state = grown_by s.state rest (bits % 2 ^ rest); event = s.event; store = s.store }) ram icons)) (byte_done (8 - x.serial.bits) (bits / 2 ^ rest) ev)
+          ∙ ap (λ (o : Outcome). (None, o)) (sym (edges_over x count bits now ram icons c.0 under (omega (arith, c.1)) b.0 b.1))
+          ∙ sym (group_passed x bits count now ram icons (group_scan x bits count now ram icons h ∙ sym same_scan ∙ answer_is.0))
 
 -- ---- a drive, whose scan is checked by the scan's own call
-turned_down : {A : Type 0} (c : Option ℕ) → (c ≡ none → ⊥) → (new given : A) → (c, given) ≡ changed c new given
-turned_down none h new given = absurd (h refl)
-turned_down (some n) h new given = refl
-
 module _ (x : Nt7508) (now : Time) (ram icons : List ℕ) where
-  module _ (h : lent_ok x now ram icons ≡ true) where
-    lent_rows : (memory_ok ram icons && in_range now ≡ true) × (valid_state x ≡ true)
-    unfolding lent_ok
-    lent_rows = both (memory_ok ram icons && in_range now) (valid_state x) h
-
-    lent_scan : check_lent x now ram icons ≡ check_scan x.scan
-    unfolding check_lent in_order check_state
-    lent_scan = let p = both (memory_ok ram icons) (in_range now) lent_rows.0 in simp (p.0, p.1, lent_rows.1) (first_none (check_scan x.scan))
-
-    drive_scan_lem : display.check_lent x.scan (display.valid_settings x.display && analog.valid_settings x.analog) now ram icons ≡ check_scan x.scan
-    unfolding display.check_lent display.in_order with_scan
-    drive_scan_lem =
-        let p = both (memory_ok ram icons) (in_range now) lent_rows.0 in
-        let v = registers x lent_rows.1 in
-        simp (p.0, p.1, v.display, v.analog)
+  module _ (h : check_but_scan x now ram icons ≡ None) where
+    drive_rows : display.check_lent x.scan (display.valid_settings x.display && analog.valid_settings x.analog) now ram icons ≡ check_scan x.scan
+    unfolding check_but_scan display.check_lent display.in_order with_scan
+    drive_rows =
+        let p = first_passed (row 2 (memory_ok ram icons)) _ h in
+        let q = first_passed (row 1 (in_range now)) _ p.1 in
+        let v = registers x (row_passed 3 (valid_state x) q.1) in
+        simp (row_passed 2 (memory_ok ram icons) p.0, row_passed 1 (in_range now) q.0, v.display, v.analog)
 
     pub drive_by_scan : drive_scan x.scan x.display x.analog (conditions_of x.power) now ram icons ≡ drive_of x now ram icons
     unfolding drive_scan drive_of
-    drive_by_scan = ap (λ (c : Option ℕ). changed c (drive_at x.scan x.display (levels_of x) (conditions_of x.power) now ram icons, frame_at x.scan x.display (conditions_of x.power) now) (off, 0)) (drive_scan_lem ∙ sym lent_scan)
+    drive_by_scan =
+        ap (λ (c : Option ℕ). changed c (drive_at x.scan x.display (levels_of x) (conditions_of x.power) now ram icons, frame_at x.scan x.display (conditions_of x.power) now) (off, 0))
+        (drive_rows ∙ sym (lent_chain x now ram icons ∙ ap (λ (c : Option ℕ). first_of c (check_scan x.scan)) h))
 
-  lent_fails : lent_ok x now ram icons ≡ false → check_lent x now ram icons ≡ none → ⊥
-  unfolding lent_ok check_state
-  lent_fails f h =
-      let k = called x now ram icons h in
-      false≢true (sym f ∙ simp (k.memory, k.in_range_lem, row_passed 3 (valid_state x) (first_passed _ _ k.state).0))
-
-  pub drive_refused : lent_ok x now ram icons ≡ false → {c : Option ℕ} → c ≡ check_lent x now ram icons → (c, (off, 0)) ≡ drive_of x now ram icons
+  pub drive_refused : {n : ℕ} → Some n ≡ check_but_scan x now ram icons → (Some n, (off, 0)) ≡ drive_of x now ram icons
   unfolding drive_of
-  drive_refused f e = ap (λ (c : Option ℕ). (c, (off, 0))) e ∙ turned_down (check_lent x now ram icons) (lent_fails f) _ (off, 0)
+  drive_refused h = rw (lent_chain x now ram icons, ← h)

@@ -1,24 +1,23 @@
 -- Document 01, 'Controller': bits clocked in. `rising` is one edge; `shift_in` is a group of edges one after another, oldest
 -- first, with the event of the byte that they may complete.
-use Rattle.std.specs.Prelude.{ℕ, zero, suc, ◌+◌, ◌*◌, ◌/◌, ◌%◌, ◌^◌, Bool, cond, not, ◌&&◌, List, [], ◌∷◌, eqb}
-use Rattle.std.proofs.Math.Option.{Option}
+use Rattle.std.specs.Prelude.{ℕ, zero, suc, ◌+◌, ◌*◌, ◌/◌, ◌%◌, ◌^◌, Bool, cond, not, ◌&&◌, List, [], ◌∷◌, eqb, Option, Some, None, Result, Ok, Err}
 use Rattle.checks.specs.Checks.{changed}
 use Rattle.clock.specs.declared.time.Time.{Time}
 use Rattle.controller.specs.declared.state.Nt7508.{Nt7508}
 use Rattle.controller.specs.declared.state.Serial.{Serial}
 use Rattle.controller.specs.declared.event.Event.{Event}
 use Rattle.controller.specs.declared.event.Stepped.{Stepped}
-use Rattle.controller.specs.declared.bits.Taken.{Taken}
+use Rattle.controller.specs.declared.check.Refusal.{Refusal}
 use Rattle.controller.specs.declared.bits.Received.{Received}
 use Rattle.controller.specs.State.{with_serial}
-use Rattle.controller.specs.Check.{refused, check_lent, check_group}
+use Rattle.controller.specs.Check.{number, check_lent, check_group}
 use Rattle.controller.specs.Event.{unstored, ram_after, icons_after}
 use Rattle.controller.specs.Byte.{waiting, byte_taken}
 
--- the outcome of a call: the state, the event it gives, and lent memory
+-- the outcome of a call: the state, the event it gives, if any, and lent memory
 pub record Outcome : Type 0 where
   pub state : Nt7508
-  pub event : Event
+  pub event : Option Event
   pub ram : List ℕ
   pub icons : List ℕ
 
@@ -35,7 +34,7 @@ with_bits l shift bits = record { selected = l.selected; «data» = l.«data»; 
 
 -- nothing done, and what is to be stored done
 abbrev pub quiet : Nt7508 → (ram icons : List ℕ) → Outcome
-quiet x ram icons = record { state = x; event = Event.None; ram = ram; icons = icons }
+quiet x ram icons = record { state = x; event = None; ram = ram; icons = icons }
 
 abbrev pub performed : Stepped → (ram icons : List ℕ) → Outcome
 performed s ram icons = record { state = s.state; event = s.event; ram = ram_after s.store ram; icons = icons_after s.store icons }
@@ -52,10 +51,9 @@ unfoldable pub edge : Nt7508 → (bit : Bool) → Time → (ram icons : List ℕ
 edge x bit now ram icons = cond (taking x) (performed (bit_taken x bit now ram icons) ram icons) (quiet x ram icons)
 
 -- a group completes one byte at the most, whose event it gives
-unfoldable pub or_else : Event → Event → Event
-or_else Event.None e = e
-or_else (Event.Write at page column value) e = Event.Write at page column value
-or_else (Event.Control at command parameter) e = Event.Control at command parameter
+unfoldable pub or_else : Option Event → Option Event → Option Event
+or_else None e = e
+or_else (Some d) e = Some d
 
 unfoldable pub and_then : Outcome → Outcome → Outcome
 and_then o p = record { state = p.state; event = or_else o.event p.event; ram = p.ram; icons = p.icons }
@@ -73,12 +71,15 @@ unfoldable pub unpacked : (count bits : ℕ) → List Bool
 unpacked zero bits = []
 unpacked (suc n) bits = bit_at bits n ∷ unpacked n bits
 
--- the answer of a call, and the lent memory that it left; a call that stores nothing itself says what is to be stored
-abbrev pub received : Received → (ram icons : List ℕ) → Option ℕ × Outcome
-received r ram icons = (refused r.check, record { state = r.state; event = r.event; ram = ram; icons = icons })
+-- the answer of a call, and the lent memory that it left; a call that stores nothing itself says what is to be stored.
+-- Refused, nothing was done with the state given
+abbrev pub received : (given : Nt7508) → Result Received Refusal → (ram icons : List ℕ) → Option ℕ × Outcome
+received given (Ok r) ram icons = (None, record { state = r.state; event = r.event; ram = ram; icons = icons })
+received given (Err why) ram icons = (Some (number why), quiet given ram icons)
 
-abbrev pub taken : Taken → (ram icons : List ℕ) → Option ℕ × Outcome
-taken r ram icons = (refused r.check, performed r.stepped ram icons)
+abbrev pub taken : (given : Nt7508) → Result Stepped Refusal → (ram icons : List ℕ) → Option ℕ × Outcome
+taken given (Ok s) ram icons = (None, performed s ram icons)
+taken given (Err why) ram icons = (Some (number why), quiet given ram icons)
 
 -- the calls: the number of the refusal, and what is left
 unfoldable pub rising : Nt7508 → (bit : Bool) → Time → (ram icons : List ℕ) → Option ℕ × Outcome

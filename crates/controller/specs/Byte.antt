@@ -1,8 +1,7 @@
 -- Document 01, 'Controller': a data byte, and a whole byte. The scan is counted and its latch retained by the settings before the
 -- byte, the byte acts, and inversion, start and clock go by the settings and memory after it.
-use Rattle.std.specs.Prelude.{ℕ, ◌+◌, ◌*◌, ◌%◌, Bool, true, false, cond, List, leb, eqb}
+use Rattle.std.specs.Prelude.{ℕ, ◌+◌, ◌*◌, ◌%◌, Bool, true, false, cond, List, leb, eqb, Option, Some, None}
 use Rattle.clock.specs.declared.time.Time.{Time}
-use Rattle.scan.specs.declared.latch.DataPage.{DataPage}
 use Rattle.scan.specs.declared.drive.Conditions.{Conditions}
 use Rattle.scan.specs.Count.{count_to}
 use Rattle.scan.specs.Latch.{retained}
@@ -11,7 +10,6 @@ use Rattle.scan.specs.Drive.{runs}
 use Rattle.controller.specs.declared.state.Nt7508.{Nt7508}
 use Rattle.controller.specs.declared.state.Address.{Address}
 use Rattle.controller.specs.declared.state.Power.{Power}
-use Rattle.controller.specs.declared.state.Ready.{Ready}
 use Rattle.controller.specs.declared.event.Event.{Event}
 use Rattle.controller.specs.declared.event.Store.{Store}
 use Rattle.controller.specs.declared.event.Stepped.{Stepped}
@@ -20,9 +18,9 @@ use Rattle.controller.specs.Event.{ram_after, icons_after}
 use Rattle.controller.specs.Command.{command_step}
 
 -- the start-up wait lasts
-abbrev pub waiting : Ready → Bool
-waiting Ready.Now = false
-waiting (Ready.At t) = true
+abbrev pub waiting : Option Time → Bool
+waiting None = false
+waiting (Some t) = true
 
 -- the conditions that decide whether the scan runs and the glass is driven
 abbrev pub conditions_of : Power → Conditions
@@ -48,13 +46,13 @@ store_of a b = cond (eqb a.page 16) (Store.Icon (a.column_byte % 256) (b % 2)) (
 unfoldable pub data_step : Nt7508 → (b : ℕ) → Time → Stepped
 data_step x b now = record {
   state = with_address x (next_column x.address);
-  event = Event.Write now x.address.page x.address.column_byte b;
-  store = store_of x.address b;
+  event = Some (Event.Write now x.address.page x.address.column_byte b);
+  store = Some (store_of x.address b);
 }
 
 -- the page that a byte could alter, if it carries data
-abbrev pub page_sent : Nt7508 → DataPage
-page_sent x = cond x.serial.«data» (DataPage.Page x.address.page) DataPage.None
+abbrev pub page_sent : Nt7508 → Option ℕ
+page_sent x = cond x.serial.«data» (Some x.address.page) None
 
 -- counted to the moment, the latch retained where the byte could alter the row shown
 unfoldable pub found : Nt7508 → Time → (ram icons : List ℕ) → Nt7508

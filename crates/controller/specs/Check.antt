@@ -1,26 +1,21 @@
 -- Document 01, 'Where a call is turned down': the conditions of `validate` on the controller, the numbers of the refusals, and
 -- the rows of the table that a call names, in the table's order.
-use Rattle.std.specs.Prelude.{ℕ, ◌^◌, Bool, true, ◌&&◌, ◌||◌, List, leb, ltb, eqb}
+use Rattle.std.specs.Prelude.{ℕ, ◌^◌, Bool, true, ◌&&◌, ◌||◌, List, leb, ltb, eqb, ◌⊎◌, Option, Some, None, Result}
 use Rattle.std.specs.Bool.{beq}
-use Rattle.std.proofs.Math.Option.{Option, none, some}
-use Rattle.checks.specs.Checks.{row, first_of}
+use Rattle.checks.specs.Checks.{row, first_of, refused_by, numbered, left_by}
+use Rattle.clock.specs.declared.edges.Clock.{Clock}
 use Rattle.clock.specs.declared.time.Time.{Time}
 use Rattle.clock.specs.Time.{raw, in_range}
 use Rattle.scan.specs.declared.state.Scan.{Scan}
-use Rattle.scan.specs.declared.state.ScanClock.{ScanClock}
+use Rattle.scan.specs.declared.check.Refusal as scan
 use Rattle.scan.specs.Check.{memory_ok, image_ok, check_scan}
 use Rattle.scan.specs.Check as display
 use Rattle.voltage.specs.Check as analog
 use Rattle.controller.specs.declared.state.Nt7508.{Nt7508}
 use Rattle.controller.specs.declared.state.Serial.{Serial}
-use Rattle.controller.specs.declared.state.Pending.{Pending}
 use Rattle.controller.specs.declared.state.Address.{Address}
-use Rattle.controller.specs.declared.state.SavedColumn.{SavedColumn}
 use Rattle.controller.specs.declared.state.Power.{Power}
-use Rattle.controller.specs.declared.state.Ready.{Ready}
 use Rattle.controller.specs.declared.check.Refusal.{Refusal}
-use Rattle.controller.specs.declared.check.Check.{Check}
-use Rattle.controller.specs.declared.check.Changed.{Changed}
 
 -- the numbers of document 01's table
 abbrev pub number : Refusal → ℕ
@@ -33,13 +28,26 @@ number Refusal.Clock = 5
 number Refusal.Restore = 6
 number Refusal.Group = 7
 
-abbrev pub refused : Check → Option ℕ
-refused Check.Passed = none
-refused (Check.Refused why) = some (number why)
+-- a refusal of the scan under this crate's name, which has the same number
+abbrev pub of_scan : scan.Refusal → Refusal
+of_scan scan.Refusal.Memory = Refusal.Memory
+of_scan scan.Refusal.Image = Refusal.Image
+of_scan scan.Refusal.Time = Refusal.Time
+of_scan scan.Refusal.Settings = Refusal.State
+of_scan scan.Refusal.Scan = Refusal.Scan
+of_scan scan.Refusal.Clock = Refusal.Clock
 
--- a state after a call: the number of the refusal, and the state
-abbrev pub answered : Changed → Option ℕ × Nt7508
-answered r = (refused r.check, r.state)
+-- the number of a call's refusal, if any
+abbrev pub refused : {A : Type 0} → Result A Refusal → Option ℕ
+refused r = refused_by number r
+
+-- that number, or what the call tells
+abbrev pub told : {A : Type 0} → Result A Refusal → ℕ ⊎ A
+told r = numbered number r
+
+-- a state after a call: the number of the refusal, and the state, which is the one given where the call is turned down
+abbrev pub answered : (given : Nt7508) → Result Nt7508 Refusal → Option ℕ × Nt7508
+answered given r = left_by number given r
 
 abbrev pub between : (low high n : ℕ) → Bool
 between low high n = leb low n && leb n high
@@ -49,16 +57,16 @@ unfoldable pub awaits : ℕ → Bool
 awaits b = between 0x40 0x4f b || eqb b 0x81 || between 0x88 0x8f b || eqb b 0xf1 || eqb b 0xf3 || eqb b 0xf4 || eqb b 0xf6 || eqb b 0xf7
 
 -- a pending byte is one that awaits a parameter
-unfoldable pub valid_pending : Pending → Bool
-valid_pending Pending.None = true
-valid_pending (Pending.Command b) = awaits b
+unfoldable pub valid_pending : Option ℕ → Bool
+valid_pending None = true
+valid_pending (Some b) = awaits b
 
 unfoldable pub valid_serial : Serial → Bool
 valid_serial l = ltb l.bits 8 && valid_pending l.pending
 
-unfoldable pub valid_saved : SavedColumn → Bool
-valid_saved SavedColumn.None = true
-valid_saved (SavedColumn.Column c) = ltb c 256
+unfoldable pub valid_saved : Option ℕ → Bool
+valid_saved None = true
+valid_saved (Some c) = ltb c 256
 
 unfoldable pub valid_address : Address → Bool
 valid_address a = leb a.page 16 && ltb a.column_byte 256 && valid_saved a.saved_column
@@ -84,15 +92,15 @@ unfoldable pub check_state : Nt7508 → Option ℕ
 check_state x = first_of (row 3 (valid_state x)) (check_scan x.scan)
 
 -- the condition of number 6 on a restored state: no clock later than now, no wait that ended before
-unfoldable pub clock_not_later : ScanClock → Time → Bool
-clock_not_later (ScanClock.Running c) now = leb (raw c.at) (raw now)
-clock_not_later ScanClock.Stopped now = true
+unfoldable pub clock_not_later : Option Clock → Time → Bool
+clock_not_later (Some c) now = leb (raw c.at) (raw now)
+clock_not_later None now = true
 
-unfoldable pub ready_not_earlier : Ready → Time → Bool
-ready_not_earlier (Ready.At t) now = leb (raw now) (raw t)
-ready_not_earlier Ready.Now now = true
+unfoldable pub ready_not_earlier : Option Time → Time → Bool
+ready_not_earlier (Some t) now = leb (raw now) (raw t)
+ready_not_earlier None now = true
 
-unfoldable pub restore_ok : Scan → Ready → Time → Bool
+unfoldable pub restore_ok : Scan → Option Time → Time → Bool
 restore_ok s ready now = clock_not_later s.ticking.clock now && ready_not_earlier ready now
 
 -- the condition of number 7 on a serial group: a count up to 8, and no bit set at or above it
@@ -106,26 +114,26 @@ in_order memory image time state restore group =
 
 -- a call that takes a moment
 unfoldable pub check_moment : Nt7508 → Time → Option ℕ
-check_moment x now = in_order none none (row 1 (in_range now)) (check_state x) none none
+check_moment x now = in_order None None (row 1 (in_range now)) (check_state x) None None
 
 -- a call that takes lent memory
 unfoldable pub check_memory : Nt7508 → (ram icons : List ℕ) → Option ℕ
-check_memory x ram icons = in_order (row 2 (memory_ok ram icons)) none none (check_state x) none none
+check_memory x ram icons = in_order (row 2 (memory_ok ram icons)) None None (check_state x) None None
 
 -- both
 unfoldable pub check_lent : Nt7508 → Time → (ram icons : List ℕ) → Option ℕ
-check_lent x now ram icons = in_order (row 2 (memory_ok ram icons)) none (row 1 (in_range now)) (check_state x) none none
+check_lent x now ram icons = in_order (row 2 (memory_ok ram icons)) None (row 1 (in_range now)) (check_state x) None None
 
 -- a group of bits
 unfoldable pub check_group : Nt7508 → (bits count : ℕ) → Time → (ram icons : List ℕ) → Option ℕ
 check_group x bits count now ram icons =
-    in_order (row 2 (memory_ok ram icons)) none (row 1 (in_range now)) (check_state x) none (row 7 (group_ok bits count))
+    in_order (row 2 (memory_ok ram icons)) None (row 1 (in_range now)) (check_state x) None (row 7 (group_ok bits count))
 
 -- an image of so many bytes
 unfoldable pub check_image : Nt7508 → (ram icons : List ℕ) → (bytes : ℕ) → Option ℕ
-check_image x ram icons bytes = in_order (row 2 (memory_ok ram icons)) (row 8 (image_ok bytes)) none (check_state x) none none
+check_image x ram icons bytes = in_order (row 2 (memory_ok ram icons)) (row 8 (image_ok bytes)) None (check_state x) None None
 
 -- a state that is restored
 unfoldable pub check_restore : Nt7508 → Time → (ram icons : List ℕ) → Option ℕ
 check_restore x now ram icons =
-    in_order (row 2 (memory_ok ram icons)) none (row 1 (in_range now)) (check_state x) (row 6 (restore_ok x.scan x.power.ready now)) none
+    in_order (row 2 (memory_ok ram icons)) None (row 1 (in_range now)) (check_state x) (row 6 (restore_ok x.scan x.power.ready now)) None

@@ -1,18 +1,14 @@
 -- Document 01, 'Controller': command bytes act as `command` lists them. For each register, the bytes that set it and what they
 -- set; a byte that sets none, E3 and E8 and the unassigned ones among them, leaves every register as it was.
-use Rattle.std.specs.Prelude.{ℕ, ◌+◌, ◌-◌, ◌*◌, ◌/◌, ◌%◌, Bool, true, false, cond, ◌&&◌, ◌||◌, leb, eqb, set}
+use Rattle.std.specs.Prelude.{ℕ, ◌+◌, ◌-◌, ◌*◌, ◌/◌, ◌%◌, Bool, true, false, cond, ◌&&◌, ◌||◌, leb, eqb, set, Option, Some, None}
 use Rattle.clock.specs.declared.time.Time.{Time}
 use Rattle.scan.specs.declared.settings.Settings as display
 use Rattle.voltage.specs.declared.Settings as analog
 use Rattle.controller.specs.declared.state.Nt7508.{Nt7508}
 use Rattle.controller.specs.declared.state.Serial.{Serial}
-use Rattle.controller.specs.declared.state.Pending.{Pending}
 use Rattle.controller.specs.declared.state.Address.{Address}
-use Rattle.controller.specs.declared.state.SavedColumn.{SavedColumn}
 use Rattle.controller.specs.declared.state.Power.{Power}
 use Rattle.controller.specs.declared.event.Event.{Event}
-use Rattle.controller.specs.declared.event.Parameter.{Parameter}
-use Rattle.controller.specs.declared.event.Store.{Store}
 use Rattle.controller.specs.declared.event.Stepped.{Stepped}
 use Rattle.controller.specs.State.{palette, with_serial}
 use Rattle.controller.specs.Check.{between, awaits}
@@ -87,16 +83,16 @@ column_set b column =
     (cond (between 0x10 0x17 b) ((b % 8 * 16 + column / 2 % 16) * 2) column)
 
 -- EE: a saved column comes back, once
-unfoldable pub column_or : SavedColumn → ℕ → ℕ
-column_or SavedColumn.None column = column
-column_or (SavedColumn.Column saved) column = saved
+unfoldable pub column_or : Option ℕ → ℕ → ℕ
+column_or None column = column
+column_or (Some saved) column = saved
 
 -- 00 to 17; B0 to BF; A3, which selects page 16, and A2, which leaves it; E0 saves the column, EE restores it; E2
 unfoldable pub address_after : Address → (b : ℕ) → Address
 address_after a b = record {
   page = reset_to b 0 (cond (eqb b 0xa3) 16 (low_bits 0xb0 0xbf 16 b a.page));
   column_byte = reset_to b 0 (cond (eqb b 0xee) (column_or a.saved_column a.column_byte) (column_set b a.column_byte));
-  saved_column = cond (is_reset b || eqb b 0xee) SavedColumn.None (cond (eqb b 0xe0) (SavedColumn.Column a.column_byte) a.saved_column);
+  saved_column = cond (is_reset b || eqb b 0xee) None (cond (eqb b 0xe0) (Some a.column_byte) a.saved_column);
 }
 
 -- a parameter and the command that awaited it: 40 to 43, 44 to 47, 48 to 4B (from 16 to 128 only), 4C to 4F, 88 to 8F, F6, F7
@@ -138,7 +134,7 @@ analog_with a c b = record {
 }
 
 -- the awaited command
-abbrev pub with_pending : Serial → Pending → Serial
+abbrev pub with_pending : Serial → Option ℕ → Serial
 with_pending l p = record { selected = l.selected; «data» = l.«data»; shift = l.shift; bits = l.bits; pending = p }
 
 -- every register after a byte that awaits no parameter
@@ -149,7 +145,7 @@ acted x b = record {
   analog = analog_after x.analog b;
   power = power_after x.power b;
   address = address_after x.address b;
-  serial = with_pending x.serial Pending.None;
+  serial = with_pending x.serial None;
 }
 
 -- every register after a parameter
@@ -160,13 +156,13 @@ parameter_taken x c b = record {
   analog = analog_with x.analog c b;
   power = x.power;
   address = x.address;
-  serial = with_pending x.serial Pending.None;
+  serial = with_pending x.serial None;
 }
 
 -- a byte that awaits a parameter gives no event, every other byte one
-unfoldable pub command_step : Nt7508 → Pending → (b : ℕ) → Time → Stepped
-command_step x (Pending.Command c) b now = record { state = parameter_taken x c b; event = Event.Control now c (Parameter.Byte b); store = Store.Nothing }
-command_step x Pending.None b now =
+unfoldable pub command_step : Nt7508 → Option ℕ → (b : ℕ) → Time → Stepped
+command_step x (Some c) b now = record { state = parameter_taken x c b; event = Some (Event.Control now c (Some b)); store = None }
+command_step x None b now =
     cond (awaits b)
-    (record { state = with_serial x (with_pending x.serial (Pending.Command b)); event = Event.None; store = Store.Nothing })
-    (record { state = acted x b; event = Event.Control now b Parameter.None; store = Store.Nothing })
+    (record { state = with_serial x (with_pending x.serial (Some b)); event = None; store = None })
+    (record { state = acted x b; event = Some (Event.Control now b None); store = None })

@@ -2,7 +2,7 @@
 -- nothing, to a state whose checks pass and whose scan goes on as it did. What such a byte leaves is by the rules; that it is what
 -- `shift_in` (Bits.antt) leaves is a law (`fast_shift`, proofs/FastPath.antt). Of any other group the answer says only that it is
 -- another.
-use Rattle.std.specs.Prelude.{ℕ, Bool, true, false, cond, ◌&&◌, ◌||◌, List, leb, eqb}
+use Rattle.std.specs.Prelude.{ℕ, Bool, cond, ◌&&◌, ◌||◌, List, leb, eqb, Option, Some, None, is_none}
 use Rattle.clock.specs.declared.time.Time.{Time}
 use Rattle.scan.specs.declared.run.Running.{Running}
 use Rattle.scan.specs.declared.state.Scan.{Scan}
@@ -11,12 +11,11 @@ use Rattle.scan.specs.Run.{running_after, byte_scan}
 use Rattle.scan.specs.Fast.{is_fast}
 use Rattle.controller.specs.declared.state.Nt7508.{Nt7508}
 use Rattle.controller.specs.declared.state.Serial.{Serial}
-use Rattle.controller.specs.declared.state.Pending.{Pending}
 use Rattle.controller.specs.declared.state.Power.{Power}
 use Rattle.controller.specs.declared.state.Address.{Address}
 use Rattle.controller.specs.declared.event.Event.{Event}
-use Rattle.controller.specs.declared.event.Parameter.{Parameter}
 use Rattle.controller.specs.declared.event.Store.{Store}
+use Rattle.controller.specs.declared.event.Stepped.{Stepped}
 use Rattle.controller.specs.declared.fast.FastStep.{FastStep}
 use Rattle.controller.specs.Check.{between}
 use Rattle.controller.specs.Command.{address_after}
@@ -27,13 +26,9 @@ use Rattle.controller.specs.Closed.{registers_ok, completes}
 abbrev pub addressing : ℕ → Bool
 addressing b = leb b 0x1f || between 0xb0 0xbf b || eqb b 0xe3
 
-abbrev pub no_pending : Pending → Bool
-no_pending Pending.None = true
-no_pending (Pending.Command c) = false
-
 -- a byte that leaves every register but the address as it is
 abbrev pub keeps : Serial → (b : ℕ) → Bool
-keeps l b = l.«data» || (no_pending l.pending && addressing b)
+keeps l b = l.«data» || (is_none l.pending && addressing b)
 
 -- the scan runs on, or stands still
 abbrev pub staying : Power → Running
@@ -48,26 +43,27 @@ unfoldable pub is_fast_byte : Nt7508 → (b : ℕ) → Time → (ram icons : Lis
 is_fast_byte x b now ram icons =
     registers_stay x b now ram icons && is_fast x.scan x.display now (staying x.power) ram icons
 
--- the answer for a byte that does not take the fast path: scan and address of the state, no event, no store
-abbrev pub not_fast : Nt7508 → FastStep
-not_fast x = record { fast = false; scan = x.scan; address = x.address; event = Event.None; store = Store.Nothing }
+-- a scan with address, event and store of a step. A step of the fast path has an event (`fast_step_is`, proofs/FastPath.antt)
+abbrev pub beside : Scan → Stepped → Option Event → Option FastStep
+beside z s None = None
+beside z s (Some e) = Some (record { scan = z; address = s.state.address; event = e; store = s.store })
 
--- the answer of the fast path: scan, address, event and store of the byte, by the rules
-unfoldable pub fast_step : Nt7508 → (b : ℕ) → Time → (ram icons : List ℕ) → FastStep
+-- the answer of the fast path: scan, address, event and store of the byte, by the rules; none for a byte that does not take it
+unfoldable pub fast_step : Nt7508 → (b : ℕ) → Time → (ram icons : List ℕ) → Option FastStep
 fast_step x b now ram icons =
+    let s = step_of x b now in
     cond (is_fast_byte x b now ram icons)
-    (record {
-      fast = true;
-      scan = (byte_scan x.scan x.display x.display now (page_sent x) (staying x.power) ram icons).1;
-      address = (step_of x b now).state.address;
-      event = (step_of x b now).event;
-      store = (step_of x b now).store;
-    })
-    (not_fast x)
+    (beside (byte_scan x.scan x.display x.display now (page_sent x) (staying x.power) ram icons).1 s s.event)
+    None
+
+-- what it stores
+abbrev pub stored : Option FastStep → Option Store
+stored None = None
+stored (Some s) = s.store
 
 -- the same of a byte that leaves every register but the address, as src/fast.rt puts it together
 unfoldable pub fast_step_of : Scan → Serial → Address → (b : ℕ) → Time → FastStep
 fast_step_of z l a b now =
     cond l.«data»
-    (record { fast = true; scan = z; address = next_column a; event = Event.Write now a.page a.column_byte b; store = store_of a b })
-    (record { fast = true; scan = z; address = address_after a b; event = Event.Control now b Parameter.None; store = Store.Nothing })
+    (record { scan = z; address = next_column a; event = Event.Write now a.page a.column_byte b; store = Some (store_of a b) })
+    (record { scan = z; address = address_after a b; event = Event.Control now b None; store = None })

@@ -1,18 +1,14 @@
 -- Document 01, 'Edge figures', and 'The tightness of contracts', d: the P cases as one table, in the paper's order and with its
 -- numbers, and what each row says over the definitions. proofs/Figures.antt proves every row of it (`figures_hold`).
-use Rattle.std.specs.Prelude.{ℕ, false, List, [], ◌∷◌, ◌≡◌, pos}
+use Rattle.std.specs.Prelude.{ℕ, false, List, [], ◌∷◌, ◌≡◌, pos, Option, Some, None}
 use Rattle.clock.specs.declared.time.Time.{Time}
 use Rattle.clock.specs.declared.rate.Rate.{Rate}
 use Rattle.clock.specs.Time.{zero}
 use Rattle.clock.specs.Edges.{started, edges_to}
-use Rattle.voltage.specs.declared.Level.{Level}
 use Rattle.voltage.specs.declared.LcdVoltages.{LcdVoltages}
 use Rattle.voltage.specs.Voltage.{voltages}
 use Rattle.controller.specs.declared.state.Nt7508.{Nt7508}
-use Rattle.controller.specs.declared.state.Pending.{Pending}
 use Rattle.controller.specs.declared.event.Event.{Event}
-use Rattle.controller.specs.declared.event.Parameter.{Parameter}
-use Rattle.controller.specs.declared.event.Store.{Store}
 use Rattle.controller.specs.declared.event.Stepped.{Stepped}
 use Rattle.controller.specs.State.{power_on, with_serial}
 use Rattle.controller.specs.Command.{with_pending, command_step}
@@ -22,7 +18,7 @@ pub data Figure : Type 0 where
   -- the target at T, with this slope, regulator and contrast
   target_is : (t slope regulator contrast target : ℕ) → Figure
   -- V0 at T 25,000, with this regulator, contrast, booster and supply
-  v0_is : (regulator contrast booster supply : ℕ) → (v0 : Level) → Figure
+  v0_is : (regulator contrast booster supply : ℕ) → (v0 : Option ℕ) → Figure
   -- V1 to V4 there, with this bias too
   levels_are : (regulator contrast booster supply bias : ℕ) → (v1 v2 v3 v4 : ℕ) → Figure
   -- the inversion lines after this parameter
@@ -42,13 +38,13 @@ figures =
     ∷ target_is 20000 0 0 32 4142731
     -- P3: T 25,000, regulator 7, contrast 61 and 62. The pump is as high as it can be, so that only the target is in V0's way
     ∷ target_is 25000 0 7 61 14976000
-    ∷ v0_is 7 61 11 3600 (Level.Microvolts 14976000)
+    ∷ v0_is 7 61 11 3600 (Some 14976000)
     ∷ target_is 25000 0 7 62 15048000
-    ∷ v0_is 7 62 11 3600 Level.Absent
+    ∷ v0_is 7 62 11 3600 None
     -- P4: regulator 1, contrast 53, booster 0, 3000 mV and 3001 mV
     ∷ target_is 25000 0 1 53 6000000
-    ∷ v0_is 1 53 0 3000 Level.Absent
-    ∷ v0_is 1 53 0 3001 (Level.Microvolts 6000000)
+    ∷ v0_is 1 53 0 3000 None
+    ∷ v0_is 1 53 0 3001 (Some 6000000)
     -- P5: bias 7 there
     ∷ levels_are 1 53 0 3001 7 5500000 5000000 1000000 500000
     -- P6: inversion parameter 0, 1, 31, 32
@@ -85,12 +81,12 @@ levels_at t slope regulator contrast booster bias supply =
 -- a command that awaits a parameter, and the parameter
 unfoldable pub sent : Nt7508 → (command parameter : ℕ) → Time → Stepped
 sent x command parameter now =
-    let s = (command_step x Pending.None command now).state in
+    let s = (command_step x None command now).state in
     command_step s s.serial.pending parameter now
 
 -- the event that the parameter gives
-abbrev pub command_event : (command parameter : ℕ) → Time → Event
-command_event command parameter now = Event.Control now command (Parameter.Byte parameter)
+abbrev pub command_event : (command parameter : ℕ) → Time → Option Event
+command_event command parameter now = Some (Event.Control now command (Some parameter))
 
 -- the meaning of a row. Inversion is command 4C, duty is 48. Either is sent to any state, at any moment
 unfoldable pub Holds : Figure → Type 0
@@ -99,10 +95,10 @@ Holds (target_is t slope regulator contrast v) =
 Holds (v0_is regulator contrast booster supply v) = (levels_at 25000 0 regulator contrast booster power_on.analog.bias supply).v0 ≡ v
 Holds (levels_are regulator contrast booster supply bias v1 v2 v3 v4) =
     let v = levels_at 25000 0 regulator contrast booster bias supply in
-    (v.v1 ≡ Level.Microvolts v1) × (v.v2 ≡ Level.Microvolts v2) × (v.v3 ≡ Level.Microvolts v3) × (v.v4 ≡ Level.Microvolts v4)
+    (v.v1 ≡ Some v1) × (v.v2 ≡ Some v2) × (v.v3 ≡ Some v3) × (v.v4 ≡ Some v4)
 Holds (lines_are b lines) = (x : Nt7508) (now : Time) → (sent x 0x4c b now).state.display.inversion_lines ≡ lines
 Holds (duty_ignored b) =
-    (x : Nt7508) (now : Time) → sent x 0x48 b now ≡ record { state = with_serial x (with_pending x.serial Pending.None); event = command_event 0x48 b now; store = Store.Nothing }
+    (x : Nt7508) (now : Time) → sent x 0x48 b now ≡ record { state = with_serial x (with_pending x.serial None); event = command_event 0x48 b now; store = None }
 Holds (duty_taken b) = (x : Nt7508) (now : Time) → ((sent x 0x48 b now).state.display.duty ≡ b) × ((sent x 0x48 b now).event ≡ command_event 0x48 b now)
 Holds (edges_are p seconds fraction n) =
     let r : Rate = record { numerator = p; denominator = 1 } in

@@ -1,16 +1,13 @@
 -- Document 01, 'Controller': the state at power-on, and the state with one group replaced.
-use Rattle.std.specs.Prelude.{ℕ, true, false, List, [], ◌∷◌, pos}
+use Rattle.std.specs.Prelude.{ℕ, true, false, List, [], ◌∷◌, pos, None}
 use Rattle.scan.specs.declared.state.Scan.{Scan}
 use Rattle.scan.specs.State as scans
 use Rattle.scan.specs.declared.settings.Settings as display
 use Rattle.voltage.specs.declared.Settings as analog
 use Rattle.controller.specs.declared.state.Nt7508.{Nt7508}
 use Rattle.controller.specs.declared.state.Serial.{Serial}
-use Rattle.controller.specs.declared.state.Pending.{Pending}
 use Rattle.controller.specs.declared.state.Address.{Address}
-use Rattle.controller.specs.declared.state.SavedColumn.{SavedColumn}
 use Rattle.controller.specs.declared.state.Power.{Power}
-use Rattle.controller.specs.declared.state.Ready.{Ready}
 
 -- the palette at power-on and after a reset
 abbrev pub palette : List ℕ
@@ -53,10 +50,10 @@ power_on = record {
     supply_millivolts = 3000;
     temperature_millicelsius = pos 20000;
     cold = false;
-    ready = Ready.Now;
+    ready = None;
   };
-  address = record { page = 0; column_byte = 0; saved_column = SavedColumn.None };
-  serial = record { selected = false; «data» = false; shift = 0; bits = 0; pending = Pending.None };
+  address = record { page = 0; column_byte = 0; saved_column = None };
+  serial = record { selected = false; «data» = false; shift = 0; bits = 0; pending = None };
 }
 
 -- the state with another group

@@ -1,7 +1,6 @@
 -- Document 01, 'Controller': selecting, the data line, supply, temperature, the start-up wait and the loss of memory.
-use Rattle.std.specs.Prelude.{ℕ, ◌+◌, Bool, true, false, cond, ◌||◌, List, eqb, ℤ, length, replicate}
+use Rattle.std.specs.Prelude.{ℕ, ◌+◌, Bool, true, false, cond, ◌||◌, List, eqb, ℤ, length, replicate, Option, Some, None, Result}
 use Rattle.std.specs.Bool.{beq}
-use Rattle.std.proofs.Math.Option.{Option}
 use Rattle.checks.specs.Checks.{changed}
 use Rattle.clock.specs.declared.time.Time.{Time}
 use Rattle.clock.specs.Time.{raw, time_of, micros_raw}
@@ -11,10 +10,9 @@ use Rattle.scan.specs.Drive.{runs}
 use Rattle.controller.specs.declared.state.Nt7508.{Nt7508}
 use Rattle.controller.specs.declared.state.Serial.{Serial}
 use Rattle.controller.specs.declared.state.Power.{Power}
-use Rattle.controller.specs.declared.state.Ready.{Ready}
 use Rattle.controller.specs.State.{power_on, with_scan, with_power, with_serial}
-use Rattle.controller.specs.declared.check.Changed.{Changed}
-use Rattle.controller.specs.Check.{refused, supplied_at, check_state, check_moment, check_memory}
+use Rattle.controller.specs.declared.check.Refusal.{Refusal}
+use Rattle.controller.specs.Check.{answered, supplied_at, check_state, check_moment, check_memory}
 use Rattle.controller.specs.Byte.{conditions_of}
 
 -- a change of selection drops the bits under way; an awaited parameter stays
@@ -43,7 +41,7 @@ with_temperature p t = record {
 }
 
 -- cold or not, and the wait
-abbrev pub with_ready : Power → (cold : Bool) → Ready → Power
+abbrev pub with_ready : Power → (cold : Bool) → Option Time → Power
 with_ready p cold ready = record {
   display_on = p.display_on;
   power_save = p.power_save;
@@ -73,7 +71,7 @@ fallen x now = record {
   scan = stopped (count_to x.scan x.display now);
   display = x.display;
   analog = x.analog;
-  power = with_ready x.power x.power.cold Ready.Now;
+  power = with_ready x.power x.power.cold None;
   address = x.address;
   serial = selected_as x.serial false;
 }
@@ -85,7 +83,7 @@ chilled x millivolts = with_power x (with_ready x.power (x.power.cold || eqb mil
 -- a cold rise returns to power-on settings, keeps T, stays cold and waits 21 µs
 unfoldable pub cold_risen : Nt7508 → Time → Nt7508
 cold_risen x now =
-    with_power power_on (with_ready (with_temperature power_on.power x.power.temperature_millicelsius) true (Ready.At (time_of (raw now + micros_raw 21))))
+    with_power power_on (with_ready (with_temperature power_on.power x.power.temperature_millicelsius) true (Some (time_of (raw now + micros_raw 21))))
 
 -- a warm rise keeps settings and updates the clock; no scan begins
 unfoldable pub warm_risen : Nt7508 → Time → Nt7508
@@ -106,9 +104,9 @@ unfoldable pub railed : Nt7508 → (millivolts : ℕ) → Time → Nt7508
 railed x millivolts now = let after = switched x millivolts now in with_power after (with_rail after.power millivolts)
 
 -- only a deadline call at the exact time ends the wait, and only then is cold cleared
-unfoldable pub deadline_met : Power → Ready → Time → Power
-deadline_met p Ready.Now now = p
-deadline_met p (Ready.At t) now = cond (eqb (raw t) (raw now)) (with_ready p false Ready.Now) p
+unfoldable pub deadline_met : Power → Option Time → Time → Power
+deadline_met p None now = p
+deadline_met p (Some t) now = cond (eqb (raw t) (raw now)) (with_ready p false None) p
 
 -- the calls: the number of the refusal, and the state
 unfoldable pub select : Nt7508 → Bool → Option ℕ × Nt7508
@@ -131,8 +129,8 @@ unfoldable pub zeros : ℕ → List ℕ
 zeros n = replicate n 0
 
 -- a loss of memory: RAM and icons all 0, and cold; a retained latch stays, none is made
-abbrev pub lost_by : Changed → (ram icons : List ℕ) → Option ℕ × (Nt7508 × (List ℕ × List ℕ))
-lost_by r ram icons = (refused r.check, (r.state, (ram, icons)))
+abbrev pub lost_by : (given : Nt7508) → Result Nt7508 Refusal → (ram icons : List ℕ) → Option ℕ × (Nt7508 × (List ℕ × List ℕ))
+lost_by given r ram icons = let left = answered given r in (left.0, (left.1, (ram, icons)))
 
 unfoldable pub lose_volatile : Nt7508 → (ram icons : List ℕ) → Option ℕ × (Nt7508 × (List ℕ × List ℕ))
 lose_volatile x ram icons =

@@ -1,17 +1,19 @@
 // The checks of the controller and the table's order: document 01, 'Where a call is turned down'.
 ghost use Rattle.std.specs.Prelude.{◌≡◌};
-ghost use Rattle.checks.specs.Checks.{row, first_of};
+ghost use Rattle.checks.specs.Checks.{row};
 ghost use Rattle.clock.specs.Time.{in_range};
-ghost use Rattle.scan.specs.Check.{refused as scan_refused, memory_ok};
-ghost use Rattle.controller.specs.Closed.{lent_ok, registers_ok};
-ghost use Rattle.controller.specs.Check.{number, refused, awaits as awaits_of, valid_pending, valid_serial, valid_saved, valid_address, valid_power, valid_state, check_state, clock_not_later, ready_not_earlier, restore_ok, group_ok, in_order, check_moment, check_memory, check_lent, check_group, check_image, check_restore};
+ghost use Rattle.scan.specs.Check.{memory_ok};
+ghost use Rattle.controller.specs.Closed.{check_but_scan, registers_ok};
+ghost use Rattle.controller.specs.Check.{number as number_of, of_scan, refused, awaits as awaits_of, valid_pending, valid_serial, valid_saved, valid_address, valid_power, valid_state, check_state, clock_not_later, ready_not_earlier, restore_ok, group_ok, check_moment, check_memory, check_lent, check_group, check_image, check_restore};
+ghost use Rattle.controller.specs.declared.check.Refusal.TheVariants.{State};
 
-use crate::state::{Address, Nt7508, Pending, Power, Ready, SavedColumn, Serial};
-use clock::Time;
-use scan::{Scan, ScanClock};
+use crate::state::{Address, Nt7508, Power, Serial};
+use checks::Numbered;
+use clock::{Clock, Time};
+use scan::Scan;
 
-// Why a call is turned down: `number` of specs/Check.antt gives each its number.
-#[derive(Clone, Copy)]
+// Why a call is turned down.
+#[derive(Clone, Copy, Debug, PartialEq, Eq)]
 pub enum Refusal {
     Memory,
     Image,
@@ -23,207 +25,186 @@ pub enum Refusal {
     Group,
 }
 
-#[derive(Clone, Copy)]
-pub enum Check {
-    Passed,
-    Refused(Refusal),
-}
+impl Numbered for Refusal {
+    ghost number = { number_of };
 
-// The state after a call, or the refusal and the state given.
-#[derive(Clone, Copy)]
-pub struct Changed {
-    pub check: Check,
-    pub state: Nt7508,
-}
-
-// A row of the table.
-fn unless(ok: bool, why: Refusal) -> Check
-    ensures { refused result ≡ row (number why) ok }
-{
-    if ok {
-        return Check::Passed;
+    fn number(self) -> u64 {
+        match self {
+            Refusal::Time => 1,
+            Refusal::Memory => 2,
+            Refusal::State => 3,
+            Refusal::Scan => 4,
+            Refusal::Clock => 5,
+            Refusal::Restore => 6,
+            Refusal::Group => 7,
+            Refusal::Image => 8,
+        }
     }
-    Check::Refused(why)
 }
 
-// The first refusal of two.
-fn first(a: Check, b: Check) -> Check
-    ensures { refused result ≡ first_of (refused a) (refused b) }
-{
-    let Check::Refused(why) = a else {
-        return b;
-    };
-    Check::Refused(why)
+// A refusal of the scan keeps its number.
+impl From<scan::Refusal> for Refusal {
+    ghost from_gives = { λ why e. e ≡ of_scan why };
+
+    fn from(why: scan::Refusal) -> Refusal {
+        match why {
+            scan::Refusal::Memory => Refusal::Memory,
+            scan::Refusal::Image => Refusal::Image,
+            scan::Refusal::Time => Refusal::Time,
+            scan::Refusal::Settings => Refusal::State,
+            scan::Refusal::Scan => Refusal::Scan,
+            scan::Refusal::Clock => Refusal::Clock,
+        }
+    }
+}
+
+// Voltages are turned down for their settings alone, which are the state's.
+impl From<voltage::Refusal> for Refusal {
+    ghost from_gives = { λ _ e. e ≡ State };
+
+    fn from(why: voltage::Refusal) -> Refusal {
+        match why {
+            voltage::Refusal::Settings => Refusal::State,
+        }
+    }
 }
 
 // Whether a command byte awaits a parameter.
+#[tactic(auto, unfolding(crate::specs::Check::awaits))]
 pub(crate) fn awaits(byte: u8) -> bool
     ensures { result ≡ awaits_of byte }
 {
-    ((0x40 <= byte) & (byte <= 0x4f))
-        | (byte == 0x81)
-        | ((0x88 <= byte) & (byte <= 0x8f))
-        | (byte == 0xf1)
-        | (byte == 0xf3)
-        | (byte == 0xf4)
-        | (byte == 0xf6)
-        | (byte == 0xf7)
+    matches!(byte, 0x40..=0x4f | 0x81 | 0x88..=0x8f | 0xf1 | 0xf3 | 0xf4 | 0xf6 | 0xf7)
 }
 
-fn valid_pending(pending: Pending) -> bool
+#[tactic(auto, unfolding(crate::specs::Check::valid_pending))]
+fn valid_pending(pending: Option<u8>) -> bool
     ensures { result ≡ valid_pending pending }
 {
-    let Pending::Command(byte) = pending else {
-        return true;
-    };
-    awaits(byte)
+    pending.is_none_or(awaits)
 }
 
-pub(crate) fn valid_serial(serial: Serial) -> bool
+#[tactic(auto, unfolding(crate::specs::Check::valid_serial))]
+fn valid_serial(serial: Serial) -> bool
     ensures { result ≡ valid_serial serial }
 {
-    let pending = serial.pending;
-    (serial.bits < 8) & valid_pending(pending)
+    (serial.bits < 8) & valid_pending(serial.pending)
 }
 
-fn valid_saved(saved: SavedColumn) -> bool
+#[tactic(auto, unfolding(crate::specs::Check::valid_saved))]
+fn valid_saved(saved: Option<u16>) -> bool
     ensures { result ≡ valid_saved saved }
 {
-    let SavedColumn::Column(column) = saved else {
-        return true;
-    };
-    column < 256
+    saved.is_none_or(|column| column < 256)
 }
 
-pub(crate) fn valid_address(address: Address) -> bool
+#[tactic(auto, unfolding(crate::specs::Check::valid_address))]
+fn valid_address(address: Address) -> bool
     ensures { result ≡ valid_address address }
 {
-    let saved = address.saved_column;
-    (address.page <= 16) & (address.column_byte < 256) & valid_saved(saved)
+    (address.page <= 16) & (address.column_byte < 256) & valid_saved(address.saved_column)
 }
 
-pub(crate) fn valid_power(power: Power) -> bool
+#[tactic(auto, unfolding(crate::specs::Check::valid_power))]
+fn valid_power(power: Power) -> bool
     ensures { result ≡ valid_power power }
 {
     power.supplied == (1650 <= power.supply_millivolts)
 }
 
 impl Nt7508 {
-    // Number 3: `validate`'s conditions, and a pending byte that awaits a parameter.
-    fn valid(self) -> bool
-        ensures { result ≡ valid_state self }
+    // Number 3: `validate`'s conditions, and a pending byte that awaits a parameter. Inline, and so no state
+    // need be put into memory for it on a byte's way.
+    #[inline(always)]
+    #[tactic(auto, unfolding(crate::specs::Check::valid_state))]
+    pub(crate) fn valid(&self) -> bool
+        ensures { result ≡ valid_state self.now }
     {
-        let serial = self.serial;
-        let address = self.address;
-        let display = self.display;
-        let analog = self.analog;
-        let power = self.power;
-        valid_serial(serial)
-            & valid_address(address)
-            & display.valid()
-            & analog.valid()
-            & valid_power(power)
+        valid_serial(self.serial)
+            & valid_address(self.address)
+            & self.display.valid()
+            & self.analog.valid()
+            & valid_power(self.power)
     }
 
     // Numbers 3, 4 and 5.
-    pub fn check(self) -> Check
+    #[tactic(auto, unfolding(crate::specs::Check::check_state))]
+    pub fn check(self) -> Result<(), Refusal>
         ensures { refused result ≡ check_state self }
     {
-        let scan = self.scan;
-        first(unless(self.valid(), Refusal::State), by_scan(scan.check()))
+        if !self.valid() {
+            return Err(Refusal::State);
+        }
+        self.scan.check()?;
+        Ok(())
     }
-}
-
-// A check of the scan by this crate's names, which have the same numbers.
-pub(crate) fn by_scan(check: scan::Check) -> Check
-    ensures { refused result ≡ scan_refused check }
-{
-    match check {
-        scan::Check::Passed => Check::Passed,
-        scan::Check::Refused(why) => match why {
-            scan::Refusal::Memory => Check::Refused(Refusal::Memory),
-            scan::Refusal::Image => Check::Refused(Refusal::Image),
-            scan::Refusal::Time => Check::Refused(Refusal::Time),
-            scan::Refusal::Settings => Check::Refused(Refusal::State),
-            scan::Refusal::Scan => Check::Refused(Refusal::Scan),
-            scan::Refusal::Clock => Check::Refused(Refusal::Clock),
-        },
-    }
-}
-
-// The table's order; a row that a call does not name has passed.
-fn in_order(
-    memory: Check,
-    image: Check,
-    time: Check,
-    state: Check,
-    restore: Check,
-    group: Check,
-) -> Check
-    ensures { refused result ≡ in_order (refused memory) (refused image) (refused time) (refused state) (refused restore) (refused group) }
-{
-    first(
-        memory,
-        first(image, first(time, first(state, first(restore, group)))),
-    )
 }
 
 // Number 2.
-fn check_lengths(ram: &[u8], icons: &[u8]) -> Check
+#[tactic(auto, unfolding(scan::specs::Check::memory_ok))]
+fn check_lengths(ram: &[u8], icons: &[u8]) -> Result<(), Refusal>
     ensures { refused result ≡ row 2 (memory_ok ram.now icons.now) }
 {
-    unless((ram.len() == 4096) & (icons.len() == 256), Refusal::Memory)
+    if !((ram.len() == 4096) & (icons.len() == 256)) {
+        return Err(Refusal::Memory);
+    }
+    Ok(())
 }
 
 // Number 1.
-fn check_time(now: Time) -> Check
+fn check_time(now: Time) -> Result<(), Refusal>
     ensures { refused result ≡ row 1 (in_range now) }
 {
-    unless(now.in_range(), Refusal::Time)
+    if !now.in_range() {
+        return Err(Refusal::Time);
+    }
+    Ok(())
 }
 
 // The checks of a call that takes a moment.
-pub(crate) fn check_moment(state: Nt7508, now: Time) -> Check
+#[tactic(auto, using(crate::proofs::Checks::first_none), unfolding(crate::specs::Check::check_moment, crate::specs::Check::in_order))]
+pub(crate) fn check_moment(state: Nt7508, now: Time) -> Result<(), Refusal>
     ensures { refused result ≡ check_moment state now }
 {
-    in_order(
-        Check::Passed,
-        Check::Passed,
-        check_time(now),
-        state.check(),
-        Check::Passed,
-        Check::Passed,
-    )
+    check_time(now)?;
+    state.check()
 }
 
 // The checks of a call that takes lent memory.
-pub(crate) fn check_memory(state: Nt7508, ram: &[u8], icons: &[u8]) -> Check
+#[tactic(auto, using(crate::proofs::Checks::first_none), unfolding(crate::specs::Check::check_memory, crate::specs::Check::in_order))]
+pub(crate) fn check_memory(state: Nt7508, ram: &[u8], icons: &[u8]) -> Result<(), Refusal>
     ensures { refused result ≡ check_memory state ram.now icons.now }
 {
-    let memory = check_lengths(ram, icons);
-    in_order(
-        memory,
-        Check::Passed,
-        Check::Passed,
-        state.check(),
-        Check::Passed,
-        Check::Passed,
-    )
+    check_lengths(ram, icons)?;
+    state.check()
+}
+
+// The checks of a call that takes both, but for the scan's: numbers 2, 1 and 3.
+#[tactic(auto, unfolding(crate::specs::Closed::check_but_scan))]
+pub(crate) fn check_but_scan(
+    state: Nt7508,
+    moment: Time,
+    ram: &[u8],
+    icons: &[u8],
+) -> Result<(), Refusal>
+    ensures { refused result ≡ check_but_scan state moment ram.now icons.now }
+{
+    check_lengths(ram, icons)?;
+    check_time(moment)?;
+    if !state.valid() {
+        return Err(Refusal::State);
+    }
+    Ok(())
 }
 
 // The checks of a call that takes both.
-pub(crate) fn check_lent(state: Nt7508, moment: Time, ram: &[u8], icons: &[u8]) -> Check
+#[tactic(auto, using(crate::proofs::Checks::first_none), unfolding(crate::specs::Check::check_lent, crate::specs::Closed::check_but_scan, crate::specs::Check::in_order, crate::specs::Check::check_state))]
+fn check_lent(state: Nt7508, moment: Time, ram: &[u8], icons: &[u8]) -> Result<(), Refusal>
     ensures { refused result ≡ check_lent state moment ram.now icons.now }
 {
-    let memory = check_lengths(ram, icons);
-    in_order(
-        memory,
-        Check::Passed,
-        check_time(moment),
-        state.check(),
-        Check::Passed,
-        Check::Passed,
-    )
+    check_but_scan(state, moment, ram, icons)?;
+    state.scan.check()?;
+    Ok(())
 }
 
 // Number 7: a count up to 8, and no bit set at or above it.
@@ -236,27 +217,9 @@ fn group_ok(bits: u8, count: u8) -> bool
     (bits as u16) < 1 << count
 }
 
-// Number 3 does not apply: group by group, so that the state is not copied for it.
-fn groups_valid(state: Nt7508) -> bool
-    ensures { result ≡ valid_state state }
-{
-    let display = state.display;
-    let analog = state.analog;
-    valid_serial(state.serial)
-        & valid_address(state.address)
-        & display.valid()
-        & analog.valid()
-        & valid_power(state.power)
-}
-
-// The rows of a call that takes a moment and lent memory but for the scan's: numbers 2, 1 and 3.
-pub(crate) fn lent_ok(state: Nt7508, moment: Time, ram: &[u8], icons: &[u8]) -> bool
-    ensures { result ≡ lent_ok state moment ram.now icons.now }
-{
-    (ram.len() == 4096) & (icons.len() == 256) & moment.in_range() & groups_valid(state)
-}
-
-// The rows of a group of bits but for the scan's: numbers 2, 1, 3 and 7.
+// The rows of a group of bits but for the scan's: numbers 2, 1, 3 and 7. Inline, as the state's check is.
+#[inline(always)]
+#[tactic(auto, unfolding(crate::specs::Closed::registers_ok, scan::specs::Check::memory_ok))]
 pub(crate) fn registers_ok(
     state: Nt7508,
     bits: u8,
@@ -267,22 +230,15 @@ pub(crate) fn registers_ok(
 ) -> bool
     ensures { result ≡ registers_ok state bits count moment ram.now icons.now }
 {
-    // Group by group, so that the state is not copied for it.
-    let display = state.display;
-    let analog = state.analog;
-    let registers = valid_serial(state.serial)
-        & valid_address(state.address)
-        & display.valid()
-        & analog.valid()
-        & valid_power(state.power);
     (ram.len() == 4096)
         & (icons.len() == 256)
         & moment.in_range()
-        & registers
+        & state.valid()
         & group_ok(bits, count)
 }
 
 // The checks of a group of bits.
+#[tactic(auto, using(crate::proofs::Checks::first_none, crate::proofs::Checks::first_first), unfolding(crate::specs::Check::check_group, crate::specs::Check::check_lent, crate::specs::Check::in_order))]
 pub(crate) fn check_group(
     state: Nt7508,
     bits: u8,
@@ -290,80 +246,68 @@ pub(crate) fn check_group(
     moment: Time,
     ram: &[u8],
     icons: &[u8],
-) -> Check
+) -> Result<(), Refusal>
     ensures { refused result ≡ check_group state bits count moment ram.now icons.now }
 {
-    let memory = check_lengths(ram, icons);
-    let group = unless(group_ok(bits, count), Refusal::Group);
-    in_order(
-        memory,
-        Check::Passed,
-        check_time(moment),
-        state.check(),
-        Check::Passed,
-        group,
-    )
+    check_lent(state, moment, ram, icons)?;
+    if !group_ok(bits, count) {
+        return Err(Refusal::Group);
+    }
+    Ok(())
 }
 
 // The checks of an image of so many bytes.
-pub(crate) fn check_image(state: Nt7508, ram: &[u8], icons: &[u8], bytes: usize) -> Check
+#[tactic(auto, using(crate::proofs::Checks::first_none), unfolding(crate::specs::Check::check_image, crate::specs::Check::in_order, scan::specs::Check::image_ok))]
+pub(crate) fn check_image(
+    state: Nt7508,
+    ram: &[u8],
+    icons: &[u8],
+    bytes: usize,
+) -> Result<(), Refusal>
     ensures { refused result ≡ check_image state ram.now icons.now bytes }
 {
-    let memory = check_lengths(ram, icons);
-    let image = unless(bytes == 6144, Refusal::Image);
-    in_order(
-        memory,
-        image,
-        Check::Passed,
-        state.check(),
-        Check::Passed,
-        Check::Passed,
-    )
+    check_lengths(ram, icons)?;
+    if bytes != 6144 {
+        return Err(Refusal::Image);
+    }
+    state.check()
 }
 
-fn clock_not_later(clock: ScanClock, now: Time) -> bool
+#[tactic(auto, unfolding(crate::specs::Check::clock_not_later))]
+fn clock_not_later(clock: Option<Clock>, now: Time) -> bool
     ensures { result ≡ clock_not_later clock now }
 {
-    let ScanClock::Running(running) = clock else {
-        return true;
-    };
-    let at = running.at;
-    at.le(now)
+    clock.is_none_or(|running| running.at <= now)
 }
 
-fn ready_not_earlier(ready: Ready, now: Time) -> bool
+#[tactic(auto, unfolding(crate::specs::Check::ready_not_earlier))]
+fn ready_not_earlier(ready: Option<Time>, now: Time) -> bool
     ensures { result ≡ ready_not_earlier ready now }
 {
-    let Ready::At(end) = ready else {
-        return true;
-    };
-    now.le(end)
+    ready.is_none_or(|end| now <= end)
 }
 
 // Number 6.
-fn restore_ok(scan: Scan, ready: Ready, now: Time) -> bool
+#[tactic(auto, unfolding(crate::specs::Check::restore_ok))]
+fn restore_ok(scan: Scan, ready: Option<Time>, now: Time) -> bool
     ensures { result ≡ restore_ok scan ready now }
 {
-    let ticking = scan.ticking;
-    let clock = ticking.clock;
-    clock_not_later(clock, now) & ready_not_earlier(ready, now)
+    clock_not_later(scan.ticking.clock, now) & ready_not_earlier(ready, now)
 }
 
 // The checks of a state that is restored.
-pub(crate) fn check_restore(state: Nt7508, moment: Time, ram: &[u8], icons: &[u8]) -> Check
-    ensures { refused result ≡ check_restore state moment ram.now icons.now }
+#[tactic(auto, using(crate::proofs::Checks::first_none), unfolding(crate::specs::Check::check_restore, crate::specs::Check::check_lent, crate::specs::Check::in_order))]
+pub(crate) fn check_restore(
+    state: Nt7508,
+    now: Time,
+    ram: &[u8],
+    icons: &[u8],
+) -> Result<(), Refusal>
+    ensures { refused result ≡ check_restore state now ram.now icons.now }
 {
-    let memory = check_lengths(ram, icons);
-    let scan = state.scan;
-    let power = state.power;
-    let ready = power.ready;
-    let restore = unless(restore_ok(scan, ready, moment), Refusal::Restore);
-    in_order(
-        memory,
-        Check::Passed,
-        check_time(moment),
-        state.check(),
-        restore,
-        Check::Passed,
-    )
+    check_lent(state, now, ram, icons)?;
+    if !restore_ok(state.scan, state.power.ready, now) {
+        return Err(Refusal::Restore);
+    }
+    Ok(())
 }

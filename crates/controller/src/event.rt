@@ -5,16 +5,9 @@ ghost use Rattle.controller.specs.Event.{unstored as unstored_of};
 use crate::state::Nt7508;
 use clock::Time;
 
-#[derive(Clone, Copy)]
-pub enum Parameter {
-    None,
-    Byte(u8),
-}
-
 // A data byte with its page and column as they were, or a command with the parameter that it awaited.
-#[derive(Clone, Copy)]
+#[derive(Clone, Copy, Debug, PartialEq, Eq)]
 pub enum Event {
-    None,
     Write {
         at: Time,
         page: u8,
@@ -24,25 +17,24 @@ pub enum Event {
     Control {
         at: Time,
         command: u8,
-        parameter: Parameter,
+        parameter: Option<u8>,
     },
 }
 
 // The byte of RAM or icons that a data byte sets.
-#[derive(Clone, Copy)]
+#[derive(Clone, Copy, Debug, PartialEq, Eq)]
 pub enum Store {
-    Nothing,
     Ram { at: usize, value: u8 },
     Icon { at: usize, value: u8 },
 }
 
-// The state after a byte, its event, and what is to be stored: the core of a byte reads memory and
-// writes none, so that thin calls store it wherever the memory stands.
-#[derive(Clone, Copy)]
+// The state after a byte, its event, if it gives one, and what is to be stored: the core of a byte reads
+// memory and writes none, so that thin calls store it wherever the memory stands.
+#[derive(Clone, Copy, Debug, PartialEq, Eq)]
 pub struct Stepped {
     pub state: Nt7508,
-    pub event: Event,
-    pub store: Store,
+    pub event: Option<Event>,
+    pub store: Option<Store>,
 }
 
 // Nothing to tell and nothing to store.
@@ -50,8 +42,8 @@ pub(crate) fn unstored(state: Nt7508) -> Stepped
     ensures { result ≡ unstored_of state }
 {
     Stepped {
-        state: state,
-        event: Event::None,
-        store: Store::Nothing,
+        state,
+        event: None,
+        store: None,
     }
 }

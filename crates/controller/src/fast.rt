@@ -3,157 +3,116 @@
 // that the other registers need not be handed over. Any other group goes by bits.rt.
 ghost use Rattle.std.specs.Prelude.{◌≡◌};
 ghost use Rattle.controller.specs.Event.{ram_after, icons_after};
-ghost use Rattle.controller.specs.Fast.{addressing as addressing_of, no_pending, keeps as keeps_of, registers_stay, not_fast, fast_step_of, fast_step};
+ghost use Rattle.controller.specs.Fast.{addressing as addressing_of, keeps as keeps_of, registers_stay, fast_step_of, fast_step, stored};
 
 use crate::bits::{completes, keep};
 use crate::byte::{conditions_of, next_column, page_sent, store_of};
-use crate::check::{valid_address, valid_power, valid_serial};
+use crate::check::registers_ok;
 use crate::command::address_after;
-use crate::event::{Event, Parameter, Store};
-use crate::state::{Address, Nt7508, Pending, Serial};
+use crate::event::{Event, Store};
+use crate::state::{Address, Nt7508, Serial};
 use clock::Time;
 use scan::{Running, Scan};
 
-// Whether a byte takes the fast path, and then the scan and the address after it, its event, and the byte
-// that is to be stored.
-#[derive(Clone, Copy)]
+// What a byte of the fast path leaves: the scan and the address after it, its event, and the byte that is
+// to be stored, if any.
+#[derive(Clone, Copy, Debug, PartialEq, Eq)]
 pub struct FastStep {
-    pub fast: bool,
     pub scan: Scan,
     pub address: Address,
     pub event: Event,
-    pub store: Store,
+    pub store: Option<Store>,
 }
 
 // Commands that set page or column, or nothing.
 fn addressing(byte: u8) -> bool
     ensures { result ≡ addressing_of byte }
 {
-    (byte <= 0x1f) | ((0xb0 <= byte) & (byte <= 0xbf)) | (byte == 0xe3)
-}
-
-fn no_pending(pending: Pending) -> bool
-    ensures { result ≡ no_pending pending }
-{
-    let Pending::None = pending else {
-        return false;
-    };
-    true
+    matches!(byte, 0x00..=0x1f | 0xb0..=0xbf | 0xe3)
 }
 
 // A byte that leaves every register but the address as it is.
 fn keeps(serial: Serial, byte: u8) -> bool
     ensures { result ≡ keeps_of serial byte }
 {
-    let pending = serial.pending;
-    serial.data | (no_pending(pending) & addressing(byte))
+    serial.data | (serial.pending.is_none() & addressing(byte))
 }
 
-// The answer for a byte that does not take the fast path.
-fn not_fast(state: Nt7508) -> FastStep
-    ensures { result ≡ not_fast state }
-{
-    let scan = state.scan;
-    let address = state.address;
-    FastStep {
-        fast: false,
-        scan: scan,
-        address: address,
-        event: Event::None,
-        store: Store::Nothing,
-    }
-}
-
-// The answer for a byte that leaves every register but the address, with the scan after it.
+// The step of a byte that leaves every register but the address, with the scan after it.
+#[tactic(auto, unfolding(crate::specs::Fast::fast_step_of))]
 fn fast_step(scan: Scan, serial: Serial, address: Address, byte: u8, now: Time) -> FastStep
     ensures { result ≡ fast_step_of scan serial address byte now }
 {
     if serial.data {
-        let store = store_of(address, byte);
-        let moved = next_column(address);
         return FastStep {
-            fast: true,
-            scan: scan,
-            address: moved,
+            scan,
+            address: next_column(address),
             event: Event::Write {
                 at: now,
                 page: address.page,
                 column: address.column_byte,
                 value: byte,
             },
-            store: store,
+            store: Some(store_of(address, byte)),
         };
     }
-    let set = address_after(address, byte);
     FastStep {
-        fast: true,
-        scan: scan,
-        address: set,
+        scan,
+        address: address_after(address, byte),
         event: Event::Control {
             at: now,
             command: byte,
-            parameter: Parameter::None,
+            parameter: None,
         },
-        store: Store::Nothing,
+        store: None,
     }
 }
 
 // The registers of a byte pass, it is whole, and it keeps them.
+#[tactic(auto, unfolding(crate::specs::Fast::registers_stay))]
 fn registers_stay(state: Nt7508, byte: u8, moment: Time, ram: &[u8], icons: &[u8]) -> bool
     ensures { result ≡ registers_stay state byte moment ram.now icons.now }
 {
-    let serial = state.serial;
-    let display = state.display;
-    let analog = state.analog;
-    let registers = valid_serial(serial)
-        & valid_address(state.address)
-        & display.valid()
-        & analog.valid()
-        & valid_power(state.power);
-    (ram.len() == 4096)
-        & (icons.len() == 256)
-        & moment.in_range()
-        & registers
+    registers_ok(state, byte, 8, moment, ram, icons)
         & completes(state, 8)
-        & (serial.bits == 0)
-        & keeps(serial, byte)
+        & (state.serial.bits == 0)
+        & keeps(state.serial, byte)
 }
 
 impl Nt7508 {
-    // A byte by the fast path. It reads lent memory and writes none.
-    fn fast_take(self, byte: u8, moment: Time, ram: &[u8], icons: &[u8]) -> FastStep
+    // A byte by the fast path; none, where it does not take it. It reads lent memory and writes none.
+    fn fast_take(self, byte: u8, moment: Time, ram: &[u8], icons: &[u8]) -> Option<FastStep>
         ensures { result ≡ fast_step self byte moment ram.now icons.now }
     {
         if !registers_stay(self, byte, moment, ram, icons) {
-            return not_fast(self);
+            return None;
         }
-        let conditions = conditions_of(self.power);
-        let runs = conditions.runs();
-        let scan = self.scan;
-        let page = page_sent(self);
-        let answer = scan.fast_byte(
+        let runs = conditions_of(self.power).runs();
+        let scan = self.scan.fast_byte(
             self.display,
             moment,
-            page,
+            page_sent(self),
             Running::after(runs, runs),
             ram,
             icons,
-        );
-        if !answer.fast {
-            return not_fast(self);
-        }
-        fast_step(answer.scan, self.serial, self.address, byte, moment)
+        )?;
+        Some(fast_step(scan, self.serial, self.address, byte, moment))
     }
 
     // A byte by the fast path, eight rising edges at once, and what it stores; nothing is done with another.
-    pub fn fast_byte(self, byte: u8, moment: Time, ram: &mut [u8], icons: &mut [u8]) -> FastStep
+    pub fn fast_byte(
+        self,
+        byte: u8,
+        moment: Time,
+        ram: &mut [u8],
+        icons: &mut [u8],
+    ) -> Option<FastStep>
         ensures tells { result ≡ fast_step self byte moment ram.old icons.old }
-        ensures ram { ram.new ≡ ram_after result.store ram.old }
-        ensures icons { icons.new ≡ icons_after result.store icons.old }
+        ensures ram { ram.new ≡ ram_after (stored result) ram.old }
+        ensures icons { icons.new ≡ icons_after (stored result) icons.old }
     {
-        let answer = self.fast_take(byte, moment, ram, icons);
-        let store = answer.store;
-        keep(store, ram, icons);
-        answer
+        let step = self.fast_take(byte, moment, ram, icons)?;
+        keep(step.store, ram, icons);
+        Some(step)
     }
 }

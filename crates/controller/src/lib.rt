@@ -13,10 +13,9 @@ mod state;
 mod supply;
 mod update;
 
-pub use bits::{Received, Taken};
-pub use check::{Changed, Check, Refusal};
-pub use event::{Event, Parameter, Stepped, Store};
+pub use bits::Received;
+pub use check::Refusal;
+pub use event::{Event, Stepped, Store};
 pub use fast::FastStep;
-pub use look::{Deadline, Driven, EffectEdges, Found, Voltages};
-pub use state::{Address, Nt7508, Pending, Power, Ready, SavedColumn, Serial};
+pub use state::{Address, Nt7508, Power, Serial};
 pub use update::Updated;

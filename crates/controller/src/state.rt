@@ -6,46 +6,27 @@ ghost use Rattle.controller.specs.State.{power_on, with_scan};
 use clock::Time;
 use scan::Scan;
 
-// A command byte that awaits its parameter.
-#[derive(Clone, Copy)]
-pub enum Pending {
-    None,
-    Command(u8),
-}
-
-// The serial line: whether it is selected and carries data, and the bits of the byte under way.
-#[derive(Clone, Copy)]
+// The serial line: whether it is selected and carries data, the bits of the byte under way, and a
+// command byte that awaits its parameter.
+#[derive(Clone, Copy, Debug, PartialEq, Eq)]
 pub struct Serial {
     pub selected: bool,
     pub data: bool,
     pub shift: u8,
     pub bits: u8,
-    pub pending: Pending,
+    pub pending: Option<u8>,
 }
 
-// A column that was put aside.
-#[derive(Clone, Copy)]
-pub enum SavedColumn {
-    None,
-    Column(u16),
-}
-
-// Where the next data byte goes. Page 16 is that of the icons.
-#[derive(Clone, Copy)]
+// Where the next data byte goes, and a column that was put aside. Page 16 is that of the icons.
+#[derive(Clone, Copy, Debug, PartialEq, Eq)]
 pub struct Address {
     pub page: u8,
     pub column_byte: u16,
-    pub saved_column: SavedColumn,
+    pub saved_column: Option<u16>,
 }
 
-// The end of the start-up wait, while it lasts.
-#[derive(Clone, Copy)]
-pub enum Ready {
-    Now,
-    At(Time),
-}
-
-#[derive(Clone, Copy)]
+// The flags that commands set, the supply, and the end of the start-up wait while it lasts.
+#[derive(Clone, Copy, Debug, PartialEq, Eq)]
 pub struct Power {
     pub display_on: bool,
     pub power_save: bool,
@@ -54,10 +35,10 @@ pub struct Power {
     pub supply_millivolts: u16,
     pub temperature_millicelsius: i32,
     pub cold: bool,
-    pub ready: Ready,
+    pub ready: Option<Time>,
 }
 
-#[derive(Clone, Copy)]
+#[derive(Clone, Copy, Debug, PartialEq, Eq)]
 pub struct Nt7508 {
     pub scan: Scan,
     pub display: scan::Settings,
@@ -69,12 +50,12 @@ pub struct Nt7508 {
 
 impl Nt7508 {
     // The controller at power-on.
+    #[tactic(auto, unfolding(crate::specs::State::power_on))]
     pub fn new() -> Self
         ensures { result ≡ power_on }
     {
-        let scan = Scan::new();
         Self {
-            scan: scan,
+            scan: Scan::new(),
             display: scan::Settings {
                 start_line: 0,
                 icon_enabled: false,
@@ -108,29 +89,28 @@ impl Nt7508 {
                 supply_millivolts: 3000,
                 temperature_millicelsius: 20_000,
                 cold: false,
-                ready: Ready::Now,
+                ready: None,
             },
             address: Address {
                 page: 0,
                 column_byte: 0,
-                saved_column: SavedColumn::None,
+                saved_column: None,
             },
             serial: Serial {
                 selected: false,
                 data: false,
                 shift: 0,
                 bits: 0,
-                pending: Pending::None,
+                pending: None,
             },
         }
     }
 }
 
 // The state with another scan.
+#[tactic(auto, unfolding(crate::specs::State::with_scan))]
 pub(crate) fn with_scan(state: Nt7508, scan: Scan) -> Nt7508
     ensures { result ≡ with_scan state scan }
 {
-    let mut next = state;
-    next.scan = scan;
-    next
+    Nt7508 { scan, ..state }
 }

@@ -1,20 +1,19 @@
 // Selecting, the data line, supply, temperature, the start-up wait and the loss of memory.
-ghost use Rattle.std.specs.Prelude.{◌≡◌, ◌+◌, true, length};
-ghost use Rattle.std.proofs.Math.Option.{none};
+ghost use Rattle.std.specs.Prelude.{◌≡◌, ◌+◌, true, None};
 ghost use Rattle.clock.specs.Time.{raw, time_of, micros_raw, in_range};
 ghost use Rattle.controller.specs.Check.{answered, supplied_at, check_moment};
-ghost use Rattle.controller.specs.Supply.{selected_as, with_data, with_temperature, with_ready, with_rail, fallen as fallen_of, chilled as chilled_of, cold_risen, warm_risen, risen as risen_of, switched as switched_of, railed as railed_of, deadline_met, select as select_of, command_data, set_temperature, set_supply, at_deadline, zeros, lost_by, lose_volatile};
-ghost use Rattle.controller.specs.State.{with_serial, with_power};
+ghost use Rattle.controller.specs.Supply.{selected_as, fallen as fallen_of, chilled as chilled_of, cold_risen, warm_risen, risen as risen_of, switched as switched_of, railed as railed_of, deadline_met, select as select_of, command_data, set_temperature, set_supply, at_deadline, lost_by, lose_volatile};
 
 use crate::byte::conditions_of;
-use crate::check::{Changed, Check, check_memory, check_moment};
-use crate::state::{Nt7508, Power, Ready, Serial};
-use clock::{Duration, Sum, Time};
+use crate::check::{Refusal, check_memory, check_moment};
+use crate::state::{Nt7508, Power, Serial, with_scan};
+use clock::{Duration, Time};
 
 // The start-up wait after a cold rise, in microseconds.
 const WAIT: u64 = 21;
 
 // A change of selection drops the bits under way; an awaited parameter stays.
+#[tactic(auto, unfolding(crate::specs::Supply::selected_as))]
 fn selected_as(serial: Serial, on: bool) -> Serial
     ensures { result ≡ selected_as serial on }
 {
@@ -33,65 +32,24 @@ fn supplied_at(millivolts: u16) -> bool
     1650 <= millivolts
 }
 
-fn with_ready(power: Power, cold: bool, ready: Ready) -> Power
-    ensures { result ≡ with_ready power cold ready }
-{
-    Power {
-        display_on: power.display_on,
-        power_save: power.power_save,
-        oscillator_enabled: power.oscillator_enabled,
-        supplied: power.supplied,
-        supply_millivolts: power.supply_millivolts,
-        temperature_millicelsius: power.temperature_millicelsius,
-        cold: cold,
-        ready: ready,
-    }
-}
-
-fn with_temperature(power: Power, millicelsius: i32) -> Power
-    ensures { result ≡ with_temperature power millicelsius }
-{
-    let mut next = power;
-    next.temperature_millicelsius = millicelsius;
-    next
-}
-
-fn with_rail(power: Power, millivolts: u16) -> Power
-    ensures { result ≡ with_rail power millivolts }
-{
-    let mut next = power;
-    next.supplied = 1650 <= millivolts;
-    next.supply_millivolts = millivolts;
-    next
-}
-
 // A fall counts the scan, stops its clock, deselects and drops the wait. The checks have been made.
 fn fallen(state: Nt7508, now: Time) -> Nt7508
-    requires { check_moment state now ≡ none }
+    requires { check_moment state now ≡ None }
     ensures { result ≡ fallen_of state now }
 {
-    let scan = state.scan;
-    let stopped = scan.fall(state.display, now);
-    let scan = stopped.scan;
-    let before = state.power;
-    let power = with_ready(before, before.cold, Ready::Now);
-    let serial = selected_as(state.serial, false);
-    let mut next = state;
-    next.scan = scan;
-    next.power = power;
-    next.serial = serial;
+    let mut next = with_scan(state, state.scan.fall(state.display, now).unwrap());
+    next.power.ready = None;
+    next.serial = selected_as(state.serial, false);
     next
 }
 
 // Rail 0 marks cold.
+#[tactic(auto, unfolding(crate::specs::State::with_power))]
 fn chilled(state: Nt7508, millivolts: u16) -> Nt7508
     ensures { result ≡ chilled_of state millivolts }
 {
-    let before = state.power;
-    let ready = before.ready;
-    let power = with_ready(before, before.cold | (millivolts == 0), ready);
     let mut next = state;
-    next.power = power;
+    next.power.cold |= millivolts == 0;
     next
 }
 
@@ -100,10 +58,7 @@ fn wait_end(now: Time) -> Time
     requires { in_range now ≡ true }
     ensures { result ≡ time_of (raw now + micros_raw 21) }
 {
-    let Sum::At(end) = now.checked_add(Duration::from_micros(WAIT)) else {
-        return now;
-    };
-    end
+    now.checked_add(Duration::from_micros(WAIT)).unwrap()
 }
 
 // A cold rise returns to power-on settings, keeps the temperature, stays cold and waits.
@@ -111,38 +66,28 @@ fn cold_risen(state: Nt7508, now: Time) -> Nt7508
     requires { in_range now ≡ true }
     ensures { result ≡ cold_risen state now }
 {
-    let before = state.power;
-    let mut next = Nt7508::new();
-    let first = next.power;
-    let power = with_ready(
-        with_temperature(first, before.temperature_millicelsius),
-        true,
-        Ready::At(wait_end(now)),
-    );
-    next.power = power;
-    next
+    let mut first = Nt7508::new();
+    first.power.temperature_millicelsius = state.power.temperature_millicelsius;
+    first.power.cold = true;
+    first.power.ready = Some(wait_end(now));
+    first
 }
 
 // A warm rise keeps settings and updates the clock. The checks have been made.
 fn warm_risen(state: Nt7508, now: Time) -> Nt7508
-    requires { check_moment state now ≡ none }
+    requires { check_moment state now ≡ None }
     ensures { result ≡ warm_risen state now }
 {
-    let scan = state.scan;
-    let conditions = conditions_of(state.power);
-    let after = scan.rise(state.display, now, conditions.runs());
-    let risen = after.scan;
-    let mut next = state;
-    next.scan = risen;
-    next
+    let runs = conditions_of(state.power).runs();
+    with_scan(state, state.scan.rise(state.display, now, runs).unwrap())
 }
 
+#[tactic(auto, unfolding(crate::specs::Supply::risen))]
 fn risen(state: Nt7508, now: Time) -> Nt7508
-    requires { check_moment state now ≡ none }
+    requires { check_moment state now ≡ None }
     ensures { result ≡ risen_of state now }
 {
-    let power = state.power;
-    if power.cold {
+    if state.power.cold {
         return cold_risen(state, now);
     }
     warm_risen(state, now)
@@ -150,170 +95,108 @@ fn risen(state: Nt7508, now: Time) -> Nt7508
 
 // A fall where the supply ceases, cold at 0, a rise where it returns. The supply itself is not set yet.
 fn switched(state: Nt7508, millivolts: u16, now: Time) -> Nt7508
-    requires { check_moment state now ≡ none }
+    requires { check_moment state now ≡ None }
     ensures { result ≡ switched_of state millivolts now }
 {
-    let power = state.power;
     let on = supplied_at(millivolts);
-    if power.supplied & !on {
+    if state.power.supplied & !on {
         return chilled(fallen(state, now), millivolts);
     }
-    if on & !power.supplied {
+    if on & !state.power.supplied {
         return risen(chilled(state, millivolts), now);
     }
     chilled(state, millivolts)
 }
 
 // The supply set, with what a fall or a rise does.
+#[tactic(auto, unfolding(crate::specs::Supply::railed, crate::specs::State::with_power))]
 fn railed(state: Nt7508, millivolts: u16, now: Time) -> Nt7508
-    requires { check_moment state now ≡ none }
+    requires { check_moment state now ≡ None }
     ensures { result ≡ railed_of state millivolts now }
 {
     let mut next = switched(state, millivolts, now);
-    let before = next.power;
-    let power = with_rail(before, millivolts);
-    next.power = power;
+    next.power.supplied = supplied_at(millivolts);
+    next.power.supply_millivolts = millivolts;
     next
 }
 
 // Only a deadline call at the exact time ends the wait, and only then is cold cleared.
+#[tactic(auto, unfolding(crate::specs::Supply::deadline_met))]
 fn deadline_met(power: Power, now: Time) -> Power
     ensures { result ≡ deadline_met power power.ready now }
 {
-    let ready = power.ready;
-    let Ready::At(end) = ready else {
-        return power;
-    };
-    if end.eq(now) {
-        return with_ready(power, false, Ready::Now);
+    let mut next = power;
+    if power.ready == Some(now) {
+        next.cold = false;
+        next.ready = None;
     }
-    power
-}
-
-// Every byte 0.
-fn clear(bytes: &mut [u8])
-    ensures { bytes.new ≡ zeros (length bytes.old) }
-{
-    let mut i = 0;
-    while i < bytes.len() {
-        bytes[i] = 0;
-        i += 1;
-    }
+    next
 }
 
 impl Nt7508 {
     // The supply in millivolts.
-    pub fn set_supply(self, millivolts: u16, now: Time) -> Changed
-        ensures { answered result ≡ set_supply self millivolts now }
+    #[tactic(auto, unfolding(crate::specs::Supply::set_supply))]
+    pub fn set_supply(self, millivolts: u16, now: Time) -> Result<Self, Refusal>
+        ensures { answered self result ≡ set_supply self millivolts now }
     {
-        let check = check_moment(self, now);
-        let Check::Passed = check else {
-            return Changed {
-                check: check,
-                state: self,
-            };
-        };
-        Changed {
-            check: Check::Passed,
-            state: railed(self, millivolts, now),
-        }
+        check_moment(self, now)?;
+        Ok(railed(self, millivolts, now))
     }
 
     // The deadline call, which ends the wait at its exact time.
-    pub fn at_deadline(self, now: Time) -> Changed
-        ensures { answered result ≡ at_deadline self now }
+    #[tactic(auto, unfolding(crate::specs::Supply::at_deadline, crate::specs::State::with_power))]
+    pub fn at_deadline(self, now: Time) -> Result<Self, Refusal>
+        ensures { answered self result ≡ at_deadline self now }
     {
-        let check = check_moment(self, now);
-        let Check::Passed = check else {
-            return Changed {
-                check: check,
-                state: self,
-            };
-        };
-        let power = deadline_met(self.power, now);
-        let mut next = self;
-        next.power = power;
-        Changed {
-            check: Check::Passed,
-            state: next,
-        }
+        check_moment(self, now)?;
+        Ok(Self {
+            power: deadline_met(self.power, now),
+            ..self
+        })
     }
 
-    pub fn select(self, on: bool) -> Changed
-        ensures { answered result ≡ select_of self on }
+    #[tactic(auto, unfolding(crate::specs::Supply::select, crate::specs::State::with_serial))]
+    pub fn select(self, on: bool) -> Result<Self, Refusal>
+        ensures { answered self result ≡ select_of self on }
     {
-        let check = self.check();
-        let Check::Passed = check else {
-            return Changed {
-                check: check,
-                state: self,
-            };
-        };
-        let serial = selected_as(self.serial, on);
-        let mut next = self;
-        next.serial = serial;
-        Changed {
-            check: Check::Passed,
-            state: next,
-        }
+        self.check()?;
+        Ok(Self {
+            serial: selected_as(self.serial, on),
+            ..self
+        })
     }
 
     // The data line: data, or commands.
-    pub fn command_data(self, on: bool) -> Changed
-        ensures { answered result ≡ command_data self on }
+    #[tactic(auto, unfolding(crate::specs::Supply::command_data, crate::specs::State::with_serial))]
+    pub fn command_data(self, on: bool) -> Result<Self, Refusal>
+        ensures { answered self result ≡ command_data self on }
     {
-        let check = self.check();
-        let Check::Passed = check else {
-            return Changed {
-                check: check,
-                state: self,
-            };
-        };
+        self.check()?;
         let mut next = self;
         next.serial.data = on;
-        Changed {
-            check: Check::Passed,
-            state: next,
-        }
+        Ok(next)
     }
 
-    pub fn set_temperature(self, millicelsius: i32) -> Changed
-        ensures { answered result ≡ set_temperature self millicelsius }
+    #[tactic(auto, unfolding(crate::specs::Supply::set_temperature, crate::specs::State::with_power))]
+    pub fn set_temperature(self, millicelsius: i32) -> Result<Self, Refusal>
+        ensures { answered self result ≡ set_temperature self millicelsius }
     {
-        let check = self.check();
-        let Check::Passed = check else {
-            return Changed {
-                check: check,
-                state: self,
-            };
-        };
-        let power = with_temperature(self.power, millicelsius);
+        self.check()?;
         let mut next = self;
-        next.power = power;
-        Changed {
-            check: Check::Passed,
-            state: next,
-        }
+        next.power.temperature_millicelsius = millicelsius;
+        Ok(next)
     }
 
     // The loss of memory: RAM and icons all 0, and cold.
-    pub fn lose_volatile(self, ram: &mut [u8], icons: &mut [u8]) -> Changed
-        ensures { lost_by result ram.new icons.new ≡ lose_volatile self ram.old icons.old }
+    #[tactic(auto, unfolding(crate::specs::Supply::lose_volatile, crate::specs::State::with_power, crate::specs::Supply::zeros))]
+    pub fn lose_volatile(self, ram: &mut [u8], icons: &mut [u8]) -> Result<Self, Refusal>
+        ensures { lost_by self result ram.new icons.new ≡ lose_volatile self ram.old icons.old }
     {
-        let check = check_memory(self, ram, icons);
-        let Check::Passed = check else {
-            return Changed {
-                check: check,
-                state: self,
-            };
-        };
-        clear(ram);
-        clear(icons);
+        check_memory(self, ram, icons)?;
+        ram.fill(0);
+        icons.fill(0);
         let mut next = self;
         next.power.cold = true;
-        Changed {
-            check: Check::Passed,
-            state: next,
-        }
+        Ok(next)
     }
 }

@@ -2,40 +2,28 @@
 ghost use Rattle.std.specs.Prelude.{◌≡◌};
 ghost use Rattle.controller.specs.Update.{answered_update, update as update_of};
 
-use crate::check::{Check, check_moment};
+use crate::check::{Refusal, check_moment};
 use crate::state::{Nt7508, with_scan};
 use clock::Time;
 
-// The state with its scan counted to the moment, and how many pieces that took; or the refusal and the
-// state given.
-#[derive(Clone, Copy)]
+// The state with its scan counted to the moment, and how many pieces that took.
+#[derive(Clone, Copy, Debug, PartialEq, Eq)]
 pub struct Updated {
-    pub check: Check,
     pub state: Nt7508,
     pub pieces: u8,
 }
 
 impl Nt7508 {
     // Counts the scan to a moment for good. No other call answers otherwise for it.
-    pub fn update(self, now: Time) -> Updated
-        ensures { answered_update result ≡ update_of self now }
+    #[tactic(auto, unfolding(crate::specs::Update::update))]
+    pub fn update(self, now: Time) -> Result<Updated, Refusal>
+        ensures { answered_update self result ≡ update_of self now }
     {
-        let check = check_moment(self, now);
-        let Check::Passed = check else {
-            return Updated {
-                check: check,
-                state: self,
-                pieces: 0,
-            };
-        };
-        let scan = self.scan;
-        let counted = scan.count_to(self.display, now);
-        let scan = counted.scan;
-        let next = with_scan(self, scan);
-        Updated {
-            check: Check::Passed,
-            state: next,
+        check_moment(self, now)?;
+        let counted = self.scan.count_to(self.display, now)?;
+        Ok(Updated {
+            state: with_scan(self, counted.scan),
             pieces: counted.pieces,
-        }
+        })
     }
 }

@@ -1,6 +1,6 @@
 -- Digits and numbers, one at a time.
-use Prim.Native.Nat.{ℕ, zero, suc, ◌+◌, ◌-◌, ◌*◌, ◌^◌, ◌≤◌, ◌<◌}
-use mathlib.Core.Bool.{Bool, true, false, cond, not, ◌&&◌}
+use Prim.Native.Nat.{ℕ, suc, ◌+◌, ◌-◌, ◌*◌, ◌^◌, ◌≤◌, ◌<◌}
+use mathlib.Core.Bool.{Bool, true, false, cond, ◌&&◌}
 use mathlib.Core.List.{List, [], ◌∷◌}
 use mathlib.Core.Path.{◌≡◌, refl, sym, ◌∙◌, ap}
 use native.Mathlib.Numerals.{add-one}
@@ -9,9 +9,9 @@ use lib.Dec.{leb, ltb, eqb}
 use lib.ListN.{length, get_or, drop, set, drop_of_length-le, get_or-eq_default}
 use lib.Seq.{drop-cons}
 use borrow.Author.Tests.{ltb-true, ltb-false, leb-true, lt-ltb, le-ltb}
-use Rattle.checks.proofs.Tests.{both, passed}
+use Rattle.checks.proofs.Tests.{both}
+use Rattle.std.specs.Prelude.{Some, None}
 use Rattle.decimal.specs.declared.Read.{Read}
-use Rattle.decimal.specs.declared.Line.{Line}
 use Rattle.decimal.specs.Decimal.{is_digit, digits, spelt, number_of, number_at, field_at, separator, line_at}
 
 -- the byte at a place, where it is a digit; that stands within the text, beyond whose end 0 is read
@@ -22,12 +22,12 @@ pub record Digit (s : List ℕ) (i b : ℕ) : Type 0 where
   pub high : b ≤ 57
   pub within : i < length s
 
-pub digit : (s : List ℕ) (i b : ℕ) (d : Bool) → b ≡ get_or s i 0 → d ≡ is_digit b → not d ≡ false → Digit s i b
-digit s i b d read tested h =
-    let q = both (leb 48 b) (leb b 57) (passed tested h) in
+pub digit : (s : List ℕ) (i b : ℕ) → b ≡ get_or s i 0 → is_digit b ≡ true → Digit s i b
+digit s i b read h =
+    let q = both (leb 48 b) (leb b 57) h in
     let low = leb-true 48 b q.0 in
     record {
-      is_digit_lem = ap is_digit (sym read) ∙ passed tested h;
+      is_digit_lem = ap is_digit (sym read) ∙ h;
       read = read;
       low = low;
       high = leb-true b 57 q.1;
@@ -76,7 +76,7 @@ stops s i n h = go (ltb i (length s)) refl
 
 -- the two answers
 module _ (s : List ℕ) (at : ℕ) where
-  pub too_large : 2 ^ 64 ≤ spelt (drop at s) 0 → Read.Malformed ≡ number_at s at
+  pub too_large : 2 ^ 64 ≤ spelt (drop at s) 0 → None ≡ number_at s at
   unfolding number_at
   too_large h = rw (le-ltb (spelt (drop at s) 0) (2 ^ 64) h)
 
@@ -88,42 +88,33 @@ module _ (s : List ℕ) (at : ℕ) where
 
 -- a field, by whether its number is ended as asked; b is the byte after it
 module _ (s : List ℕ) (at end : ℕ) where
-  pub no_number : number_at s at ≡ Read.Malformed → Read.Malformed ≡ field_at s at end
+  pub no_number : number_at s at ≡ None → None ≡ field_at s at end
   unfolding field_at
   no_number h = rw h
 
   pub ended :
-      (value next b : ℕ) (t : Bool) → number_at s at ≡ Read.Number value next → b ≡ get_or s next 0
-      → (ltb next (length s) && eqb b end) ≡ t
-      → cond t (Read.Number value (next + 1)) Read.Malformed ≡ field_at s at end
+      (n : Read) (b : ℕ) (t : Bool) → number_at s at ≡ Some n → b ≡ get_or s n.next 0
+      → (ltb n.next (length s) && eqb b end) ≡ t
+      → cond t (Some (record { value = n.value; next = n.next + 1 })) None ≡ field_at s at end
   unfolding field_at
-  ended value next b t h e k = rw (h, ← e, k)
+  ended n b t h e k = rw (h, ← e, k)
 
--- a line, of whose n numbers n - i are left
-module _ (s : List ℕ) (n i at : ℕ) (w : List ℕ) where
-  module _ (within : i < n) where
-    left : n - i ≡ suc (n - (i + 1))
-    left = omega arith
-
-    behind : n - i - 1 ≡ n - (i + 1)
-    behind = omega arith
+-- a line, of whose numbers so many are left
+module _ (s : List ℕ) (left at i : ℕ) (w : List ℕ) where
+  module _ (some_left : 0 < left) where
+    one_more : left ≡ suc (left - 1)
+    one_more = omega arith
 
     pub line_step :
-        (value next : ℕ) → field_at s at (separator (n - i - 1)) ≡ Read.Number value next
-        → line_at (n - i) s at i w ≡ line_at (n - (i + 1)) s next (i + 1) (set w i value)
+        (r : Read) → field_at s at (separator (left - 1)) ≡ Some r
+        → line_at left s at i w ≡ line_at (left - 1) s r.next (i + 1) (set w i r.value)
     unfolding line_at
-    line_step value next h =
-        let field : field_at s at (separator (n - (i + 1))) ≡ Read.Number value next = rw behind at h in
-        rw (left, field)
+    line_step r field = ap (λ (n : ℕ). line_at n s at i w) one_more ∙ rw field
 
-    pub line_fails : field_at s at (separator (n - i - 1)) ≡ Read.Malformed → (Line.Malformed, w) ≡ line_at (n - i) s at i w
+    pub line_fails : field_at s at (separator (left - 1)) ≡ None → (None, w) ≡ line_at left s at i w
     unfolding line_at
-    line_fails h =
-        let field : field_at s at (separator (n - (i + 1))) ≡ Read.Malformed = rw behind at h in
-        rw (left, field)
+    line_fails field = rw (one_more, field)
 
-  pub line_done : n ≤ i → (Line.Ended at, w) ≡ line_at (n - i) s at i w
+  pub line_done : left ≡ 0 → (Some at, w) ≡ line_at left s at i w
   unfolding line_at
-  line_done past =
-      let e : n - i ≡ zero = omega arith in
-      rw e
+  line_done none = rw none

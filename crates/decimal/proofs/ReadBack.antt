@@ -10,7 +10,7 @@ use lib.ListN.{length, get_or, drop, length-append, get_or-append}
 use lib.Seq.{drop-append_seam, get_or-append-add}
 use borrow.Author.Tests.{lt-ltb, le-leb, ne_eqb, ltb-true, ltb-false}
 use Rattle.decimal.proofs.Laws.{found}
-use Rattle.decimal.specs.declared.Read.{Read}
+use Rattle.std.specs.Prelude.{Some}
 use Rattle.decimal.specs.Decimal.{is_digit, digits, spelt, well_formed, number_at}
 use Rattle.decimal.specs.Print.{digits_up_to, decimal}
 
@@ -109,7 +109,7 @@ nothing_more (b ∷ rest) n h = go (is_digit b) h
 -- a number of 64 bits, printed anywhere in a text and with no digit behind it, is read as itself, and ends where it was printed
 pub read_back :
     (front : List ℕ) (n : ℕ) (rest : List ℕ) → n < 2 ^ 64 → digits rest ≡ 0
-    → number_at (front ++ (decimal n ++ rest)) (length front) ≡ Read.Number n (length front + length (decimal n))
+    → number_at (front ++ (decimal n ++ rest)) (length front) ≡ Some (record { value = n; next = length front + length (decimal n) })
 unfolding decimal
 read_back front n rest h none =
     let here : drop (length front) (front ++ (decimal n ++ rest)) ≡ decimal n ++ rest = drop-append_seam front (decimal n ++ rest) in

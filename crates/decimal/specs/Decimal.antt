@@ -1,8 +1,7 @@
 -- Decimals of a text, which is a list of bytes. Document 01, 'Session program': decimals have no leading zero; one space
 -- between two, and a newline after the last of a line.
-use Rattle.std.specs.Prelude.{ℕ, zero, suc, ◌+◌, ◌-◌, ◌*◌, ◌^◌, Bool, cond, not, ◌&&◌, ◌||◌, List, [], ◌∷◌, leb, ltb, eqb, length, get_or, drop, set}
+use Rattle.std.specs.Prelude.{ℕ, zero, suc, ◌+◌, ◌-◌, ◌*◌, ◌^◌, Bool, cond, not, ◌&&◌, ◌||◌, List, [], ◌∷◌, leb, ltb, eqb, length, get_or, drop, set, Option, Some, None}
 use Rattle.decimal.specs.declared.Read.{Read}
-use Rattle.decimal.specs.declared.Line.{Line}
 
 -- the digits 0 to 9
 abbrev pub is_digit : ℕ → Bool
@@ -23,23 +22,23 @@ abbrev pub well_formed : (first count : ℕ) → Bool
 well_formed first count = ltb 0 count && (not (eqb first 48) || eqb count 1)
 
 -- the number that they spell, if they are a decimal
-abbrev pub number_of : (first count value next : ℕ) → Read
-number_of first count value next = cond (well_formed first count) (Read.Number value next) Read.Malformed
+abbrev pub number_of : (first count value next : ℕ) → Option Read
+number_of first count value next = cond (well_formed first count) (Some (record { value = value; next = next })) None
 
 -- the number at a place, where there is one that 64 bits hold; it ends where its digits do
-unfoldable pub number_at : List ℕ → ℕ → Read
+unfoldable pub number_at : List ℕ → ℕ → Option Read
 number_at s at =
     cond (ltb (spelt (drop at s) 0) (2 ^ 64))
     (number_of (get_or s at 0) (digits (drop at s)) (spelt (drop at s) 0) (at + digits (drop at s)))
-    Read.Malformed
+    None
 
 -- a number with this byte after it
-abbrev pub ended_by : List ℕ → ℕ → Read → Read
-ended_by s end Read.Malformed = Read.Malformed
-ended_by s end (Read.Number value next) =
-    cond (ltb next (length s) && eqb (get_or s next 0) end) (Read.Number value (next + 1)) Read.Malformed
+abbrev pub ended_by : List ℕ → ℕ → Option Read → Option Read
+ended_by s end None = None
+ended_by s end (Some n) =
+    cond (ltb n.next (length s) && eqb (get_or s n.next 0) end) (Some (record { value = n.value; next = n.next + 1 })) None
 
-unfoldable pub field_at : List ℕ → ℕ → ℕ → Read
+unfoldable pub field_at : List ℕ → ℕ → ℕ → Option Read
 field_at s at end = ended_by s end (number_at s at)
 
 -- the byte after a number that has so many behind it: a newline after the last, else a space
@@ -48,11 +47,11 @@ separator left = cond (eqb left 0) 10 32
 
 -- a line of so many numbers from a place on: where it ends, and what w, from i on, holds after them; what follows a
 -- malformed one stays
-abbrev pub line_next : Read → List ℕ → (ℕ → ℕ → Line × List ℕ) → Line × List ℕ
-line_next Read.Malformed w rest = (Line.Malformed, w)
-line_next (Read.Number value next) w rest = rest value next
+abbrev pub line_next : Option Read → List ℕ → (Read → Option ℕ × List ℕ) → Option ℕ × List ℕ
+line_next None w rest = (None, w)
+line_next (Some n) w rest = rest n
 
-unfoldable pub line_at : ℕ → List ℕ → ℕ → ℕ → List ℕ → Line × List ℕ
-line_at zero s at i w = (Line.Ended at, w)
+unfoldable pub line_at : ℕ → List ℕ → ℕ → ℕ → List ℕ → Option ℕ × List ℕ
+line_at zero s at i w = (Some at, w)
 line_at (suc left) s at i w =
-    line_next (field_at s at (separator left)) w (λ value next. line_at left s next (i + 1) (set w i value))
+    line_next (field_at s at (separator left)) w (λ n. line_at left s n.next (i + 1) (set w i n.value))

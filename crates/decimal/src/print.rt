@@ -19,10 +19,8 @@ pub fn put_bytes(out: &mut [u8], at: usize, bytes: &[u8]) -> usize
     ensures { (out.new, result) ≡ put (out.old, at) bytes.now }
 {
     let mut next = at;
-    let mut i = 0;
-    while i < bytes.len() {
-        next = put_byte(out, next, bytes[i]);
-        i += 1;
+    for &byte in bytes {
+        next = put_byte(out, next, byte);
     }
     next
 }

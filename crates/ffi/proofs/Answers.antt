@@ -1,6 +1,6 @@
 -- An answer that equals a definition's leaves the same status and the same words behind.
 use Prim.Native.Nat.{ℕ}
-use mathlib.Core.Option.{Option, none}
+use Rattle.std.specs.Prelude.{Option, None}
 use mathlib.Core.Path.{◌≡◌, refl, ap, sym, ◌∙◌}
 use Rattle.checks.specs.Checks.{unless_refused}
 use Rattle.ffi.specs.Words.{check_status}
@@ -15,8 +15,8 @@ pub left_by_lem : {A B : Type 0} {p q : Option ℕ × A} (words : A → B) → p
 left_by_lem words e old = left_from words e refl
 
 -- one that passes leaves 0 and the words of its value
-pub passed_status : {A : Type 0} {p q : Option ℕ × A} → p.0 ≡ none → p ≡ q → 0 ≡ check_status q.0
+pub passed_status : {A : Type 0} {p q : Option ℕ × A} → p.0 ≡ None → p ≡ q → 0 ≡ check_status q.0
 passed_status n e = sym (ap check_status n) ∙ status_by e
 
-pub passed_left : {A B : Type 0} {p q : Option ℕ × A} (words : A → B) → p.0 ≡ none → p ≡ q → (old : B) → words p.1 ≡ unless_refused q.0 (words q.1) old
+pub passed_left : {A B : Type 0} {p q : Option ℕ × A} (words : A → B) → p.0 ≡ None → p ≡ q → (old : B) → words p.1 ≡ unless_refused q.0 (words q.1) old
 passed_left {A} {B} {p} words n e old = sym (ap (λ (o : Option ℕ). unless_refused o (words p.1) old) n) ∙ left_by_lem words e old

@@ -5,12 +5,12 @@ use mathlib.Core.List.{List, ◌∷◌}
 use mathlib.Core.Path.{◌≡◌, refl, ap, sym, ◌∙◌}
 use native.Mathlib.Omega.{arith}
 use lib.ListN.{drop}
+use Rattle.std.specs.Prelude.{Option, Some, None}
 use Rattle.scan.specs.declared.state.Scan.{Scan}
-use Rattle.scan.specs.declared.state.ScanClock.{ScanClock}
+use Rattle.clock.specs.declared.edges.Clock.{Clock}
 use Rattle.scan.proofs.Leaves.{Period, Lasting, period_of, lasting}
 use Rattle.controller.specs.declared.state.Nt7508.{Nt7508}
 use Rattle.controller.specs.declared.state.Address.{Address}
-use Rattle.controller.specs.declared.state.SavedColumn.{SavedColumn}
 use Rattle.controller.specs.declared.fast.FastStep.{FastStep}
 use Rattle.controller.specs.Bits.{with_bits}
 use Rattle.ffi.specs.ScanWords.{running_words}
@@ -18,14 +18,14 @@ use Rattle.ffi.specs.StateWords.{scan_part, display_part, power_part, address_pa
 use Rattle.ffi.specs.FastWords.{clock_put, latch_put, counters_put, line_put, fast_put}
 use Rattle.ffi.proofs.Unchanged.{from}
 
-clock_moved : (z x : ScanClock) → period_of z ≡ period_of x → (rest : List ℕ) → clock_put z (from 9 0 (running_words x) rest) ≡ from 9 0 (running_words z) rest
+clock_moved : (z x : Option Clock) → period_of z ≡ period_of x → (rest : List ℕ) → clock_put z (from 9 0 (running_words x) rest) ≡ from 9 0 (running_words z) rest
 unfolding clock_put
-clock_moved (ScanClock.Running c) (ScanClock.Running d) e rest =
+clock_moved (Some c) (Some d) e rest =
     let same : ◌≡◌ {A = Period} (record { whole = d.whole; remainder = d.remainder; denominator = d.denominator }) (record { whole = c.whole; remainder = c.remainder; denominator = c.denominator }) = cc in
     λ i. 1 ∷ c.at.seconds ∷ c.at.fraction ∷ (same i).whole.high ∷ (same i).whole.low ∷ (same i).remainder ∷ (same i).denominator ∷ c.fraction ∷ c.ordinal ∷ rest
-clock_moved (ScanClock.Running c) ScanClock.Stopped e rest = let never : ◌≡◌ {A = ℕ} 0 1 = cc in absurd (omega arith)
-clock_moved ScanClock.Stopped (ScanClock.Running d) e rest = let never : ◌≡◌ {A = ℕ} 0 1 = cc in absurd (omega arith)
-clock_moved ScanClock.Stopped ScanClock.Stopped e rest = refl
+clock_moved (Some c) None e rest = let never : ◌≡◌ {A = ℕ} 0 1 = cc in absurd (omega arith)
+clock_moved None (Some d) e rest = let never : ◌≡◌ {A = ℕ} 0 1 = cc in absurd (omega arith)
+clock_moved None None e rest = refl
 
 -- a scan with what lasts of another, and an address with its saved column
 abbrev with_lasting : Scan → Lasting → Scan
@@ -40,7 +40,7 @@ with_lasting z k = record {
   inversion = record { lines = k.lines; count = z.inversion.count; inverted = z.inversion.inverted };
 }
 
-abbrev with_saved : Address → SavedColumn → Address
+abbrev with_saved : Address → Option ℕ → Address
 with_saved a saved = record { page = a.page; column_byte = a.column_byte; saved_column = saved }
 
 pub fast_moved : (x : Nt7508) (s : FastStep) → lasting s.scan ≡ lasting x.scan → s.address.saved_column ≡ x.address.saved_column → fast_put s (state_words x) ≡ state_words (record { scan = s.scan; display = x.display; analog = x.analog; power = x.power; address = s.address; serial = with_bits x.serial 0 0 })

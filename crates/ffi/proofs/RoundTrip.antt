@@ -14,18 +14,18 @@ use mir.Val.{bool_byte}
 use borrow.Author.Tests.{lt-ltb, le-ltb, eq-eqb}
 use Rattle.scan.specs.declared.settings.Settings as display
 use Rattle.scan.specs.declared.state.Scan.{Scan}
-use Rattle.scan.specs.declared.state.ScanClock.{ScanClock}
 use Rattle.voltage.specs.declared.Settings as analog
 use Rattle.controller.specs.declared.state.Nt7508.{Nt7508}
 use Rattle.controller.specs.declared.state.Serial.{Serial}
-use Rattle.controller.specs.declared.state.Pending.{Pending}
 use Rattle.controller.specs.declared.state.Address.{Address}
-use Rattle.controller.specs.declared.state.SavedColumn.{SavedColumn}
 use Rattle.controller.specs.declared.state.Power.{Power}
-use Rattle.controller.specs.declared.state.Ready.{Ready}
-use Rattle.ffi.specs.ClockWords.{time}
+use Rattle.clock.specs.declared.time.Time.{Time}
+use Rattle.clock.specs.declared.edges.Clock.{Clock}
+use Rattle.std.specs.Prelude.{Option, Some, None}
+use Rattle.ffi.specs.Words.{optional_words}
+use Rattle.ffi.specs.ClockWords.{time, deadline_words}
 use Rattle.ffi.specs.ScanWords.{flag, running_of, running_words}
-use Rattle.ffi.specs.StateWords.{scan_fits, display_fits, analog_fits, power_fits, line_fits, holds_state, clock_in, scan_in, display_in, analog_in, temperature_of, ready_in, power_in, saved_in, address_in, pending_in, serial_in, state_of, scan_part, display_part, temperature_word, ready_words, power_part, saved_words, address_part, pending_words, serial_part, state_words}
+use Rattle.ffi.specs.StateWords.{scan_fits, display_fits, analog_fits, power_fits, line_fits, holds_state, clock_in, scan_in, display_in, analog_in, temperature_of, ready_in, power_in, saved_in, address_in, pending_in, serial_in, state_of, scan_part, display_part, temperature_word, power_part, address_part, serial_part, state_words}
 use Rattle.ffi.proofs.Temperatures.{positive}
 
 -- ---- numbers that fit their types
@@ -70,12 +70,12 @@ pub record PowerOk (p : Power) : Type 0 where
 pub record AddressOk (a : Address) : Type 0 where
   pub page : a.page < 256
   pub column : a.column_byte < 65536
-  pub saved : get_or (saved_words a.saved_column) 1 0 < 65536
+  pub saved : get_or (optional_words a.saved_column) 1 0 < 65536
 
 pub record SerialOk (l : Serial) : Type 0 where
   pub shift : l.shift < 256
   pub bits : l.bits < 256
-  pub pending : get_or (pending_words l.pending) 1 0 < 256
+  pub pending : get_or (optional_words l.pending) 1 0 < 256
 
 pub record StateOk (x : Nt7508) : Type 0 where
   pub scan : ScanOk x.scan
@@ -99,21 +99,17 @@ temperature_back (negsuc n) h =
     rw (le-ltb 2147483648 (suc n) (omega arith), mod-eq_of_lt small, lt-ltb (2147483648 - suc n) 2147483648 (omega arith)) (ap negsuc (omega arith))
 
 -- ---- what may not be there
-clock_back : (c : ScanClock) → running_of (get_or (running_words c) 0 0) (get_or (running_words c) 1 0 ∷ get_or (running_words c) 2 0 ∷ get_or (running_words c) 3 0 ∷ get_or (running_words c) 4 0 ∷ get_or (running_words c) 5 0 ∷ get_or (running_words c) 6 0 ∷ get_or (running_words c) 7 0 ∷ get_or (running_words c) 8 0 ∷ []) ≡ c
-clock_back (ScanClock.Running k) = refl
-clock_back ScanClock.Stopped = refl
+clock_back : (c : Option Clock) → running_of (get_or (running_words c) 0 0) (get_or (running_words c) 1 0 ∷ get_or (running_words c) 2 0 ∷ get_or (running_words c) 3 0 ∷ get_or (running_words c) 4 0 ∷ get_or (running_words c) 5 0 ∷ get_or (running_words c) 6 0 ∷ get_or (running_words c) 7 0 ∷ get_or (running_words c) 8 0 ∷ []) ≡ c
+clock_back (Some k) = refl
+clock_back None = refl
 
-ready_back : (r : Ready) → cond (eqb (get_or (ready_words r) 0 0) 0) Ready.Now (Ready.At (time (get_or (ready_words r) 1 0) (get_or (ready_words r) 2 0))) ≡ r
-ready_back Ready.Now = refl
-ready_back (Ready.At t) = refl
+ready_back : (r : Option Time) → cond (eqb (get_or (deadline_words r) 0 0) 0) None (Some (time (get_or (deadline_words r) 1 0) (get_or (deadline_words r) 2 0))) ≡ r
+ready_back None = refl
+ready_back (Some t) = refl
 
-saved_back : (s : SavedColumn) → get_or (saved_words s) 1 0 < 65536 → cond (eqb (get_or (saved_words s) 0 0) 0) SavedColumn.None (SavedColumn.Column (get_or (saved_words s) 1 0 % 65536)) ≡ s
-saved_back SavedColumn.None h = refl
-saved_back (SavedColumn.Column c) h = ap SavedColumn.Column (mod-eq_of_lt h)
-
-pending_back : (p : Pending) → get_or (pending_words p) 1 0 < 256 → cond (eqb (get_or (pending_words p) 0 0) 0) Pending.None (Pending.Command (get_or (pending_words p) 1 0 % 256)) ≡ p
-pending_back Pending.None h = refl
-pending_back (Pending.Command b) h = ap Pending.Command (mod-eq_of_lt h)
+optional_back : (o : Option ℕ) (m : ℕ) → get_or (optional_words o) 1 0 < m → cond (eqb (get_or (optional_words o) 0 0) 0) None (Some (get_or (optional_words o) 1 0 % m)) ≡ o
+optional_back None m h = refl
+optional_back (Some n) m h = ap Some (mod-eq_of_lt h)
 
 -- ---- lists of two and of eight
 two : (l : List ℕ) → length l ≡ 2 → get_or l 0 0 ∷ get_or l 1 0 ∷ [] ≡ l
@@ -207,7 +203,7 @@ unfolding state_words scan_part display_part power_part address_part serial_part
 address_back x ok = λ i. record {
   page = mod-eq_of_lt ok.page i;
   column_byte = mod-eq_of_lt ok.column i;
-  saved_column = saved_back x.address.saved_column ok.saved i;
+  saved_column = optional_back x.address.saved_column 65536 ok.saved i;
 }
 
 serial_back : (x : Nt7508) → SerialOk x.serial → serial_in (state_words x) ≡ x.serial
@@ -217,7 +213,7 @@ serial_back x ok = λ i. record {
   «data» = flag_back x.serial.«data» i;
   shift = mod-eq_of_lt ok.shift i;
   bits = mod-eq_of_lt ok.bits i;
-  pending = pending_back x.serial.pending ok.pending i;
+  pending = optional_back x.serial.pending 256 ok.pending i;
 }
 
 -- ---- the state comes back
@@ -240,21 +236,17 @@ flag_fits : (b : Bool) → ltb (bool_byte b) 2 ≡ true
 flag_fits true = refl
 flag_fits false = refl
 
-clock_fits : (c : ScanClock) → ltb (get_or (running_words c) 0 0) 2 ≡ true
-clock_fits (ScanClock.Running k) = refl
-clock_fits ScanClock.Stopped = refl
+clock_fits : (c : Option Clock) → ltb (get_or (running_words c) 0 0) 2 ≡ true
+clock_fits (Some k) = refl
+clock_fits None = refl
 
-ready_fits : (r : Ready) → ltb (get_or (ready_words r) 0 0) 2 ≡ true
-ready_fits Ready.Now = refl
-ready_fits (Ready.At t) = refl
+ready_fits : (r : Option Time) → ltb (get_or (deadline_words r) 0 0) 2 ≡ true
+ready_fits None = refl
+ready_fits (Some t) = refl
 
-saved_fits : (s : SavedColumn) → ltb (get_or (saved_words s) 0 0) 2 ≡ true
-saved_fits SavedColumn.None = refl
-saved_fits (SavedColumn.Column c) = refl
-
-pending_fits : (p : Pending) → ltb (get_or (pending_words p) 0 0) 2 ≡ true
-pending_fits Pending.None = refl
-pending_fits (Pending.Command b) = refl
+optional_fits : (o : Option ℕ) → ltb (get_or (optional_words o) 0 0) 2 ≡ true
+optional_fits None = refl
+optional_fits (Some n) = refl
 
 scan_fits_lem : (x : Nt7508) → ScanOk x.scan → scan_fits (state_words x) ≡ true
 unfolding state_words scan_part display_part power_part address_part serial_part
@@ -274,7 +266,7 @@ power_fits_lem x ok = both_hold (both_hold (both_hold (both_hold (both_hold (bot
 
 line_fits_lem : (x : Nt7508) → AddressOk x.address → SerialOk x.serial → line_fits (state_words x) ≡ true
 unfolding state_words scan_part display_part power_part address_part serial_part
-line_fits_lem x a l = both_hold (both_hold (both_hold (both_hold (both_hold (both_hold (both_hold (both_hold (both_hold (lt-ltb _ _ a.page) (lt-ltb _ _ a.column)) (saved_fits x.address.saved_column)) (lt-ltb _ _ a.saved)) (flag_fits x.serial.selected)) (flag_fits x.serial.«data»)) (lt-ltb _ _ l.shift)) (lt-ltb _ _ l.bits)) (pending_fits x.serial.pending)) (lt-ltb _ _ l.pending)
+line_fits_lem x a l = both_hold (both_hold (both_hold (both_hold (both_hold (both_hold (both_hold (both_hold (both_hold (lt-ltb _ _ a.page) (lt-ltb _ _ a.column)) (optional_fits x.address.saved_column)) (lt-ltb _ _ a.saved)) (flag_fits x.serial.selected)) (flag_fits x.serial.«data»)) (lt-ltb _ _ l.shift)) (lt-ltb _ _ l.bits)) (optional_fits x.serial.pending)) (lt-ltb _ _ l.pending)
 
 length_words : (x : Nt7508) → length (state_words x) ≡ 75
 unfolding state_words scan_part display_part power_part address_part serial_part

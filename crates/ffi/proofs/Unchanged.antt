@@ -13,12 +13,11 @@ use lib.Seq.{drop-cons}
 use mir.Val.{bool_byte}
 use borrow.Author.Tests.{ltb-true, ltb-false, le-ltb, eqb-true}
 use Rattle.checks.proofs.Tests.{both}
-use Rattle.controller.specs.declared.state.SavedColumn.{SavedColumn}
-use Rattle.controller.specs.declared.state.Pending.{Pending}
-use Rattle.controller.specs.declared.state.Ready.{Ready}
+use Rattle.std.specs.Prelude.{Some, None}
+use Rattle.ffi.specs.Words.{optional_words}
 use Rattle.ffi.specs.ClockWords.{time}
 use Rattle.ffi.specs.ScanWords.{flag, running_of, running_words}
-use Rattle.ffi.specs.StateWords.{scan_fits, display_fits, analog_fits, power_fits, line_fits, holds_state, clock_in, scan_in, display_in, analog_in, temperature_of, ready_in, power_with, power_in, saved_in, address_in, pending_in, serial_in, state_of, scan_part, display_part, analog_part, temperature_word, power_part, saved_words, address_part, pending_words, serial_part, state_words}
+use Rattle.ffi.specs.StateWords.{scan_fits, display_fits, analog_fits, power_fits, line_fits, holds_state, clock_in, scan_in, display_in, analog_in, temperature_of, ready_in, power_with, power_in, saved_in, address_in, pending_in, serial_in, state_of, scan_part, display_part, analog_part, temperature_word, power_part, address_part, serial_part, state_words}
 use Rattle.ffi.specs.FastWords.{there_or_zero, rest_zero, eight_zero, clock_zero}
 use Rattle.ffi.proofs.Blocks.{filled_none, filled_same, filled_all, length_scan, length_display, length_power, length_address, length_serial}
 use Rattle.ffi.proofs.OnBlock.{block_length}
@@ -113,18 +112,11 @@ clock_same w rest h z = go (get_or w 0 0) h z
     go (suc zero) h z = refl
     go (suc (suc n)) h z = absurd (omega arith)
 
-saved_same : (there n : ℕ) → there_or_zero there n ≡ true → bool_byte (flag there) ∷ n % 65536 ∷ [] ≡ saved_words (cond (eqb there 0) SavedColumn.None (SavedColumn.Column (n % 65536)))
-saved_same there n h = go (eqb there 0) h
+optional_same : (m : ℕ) → 0 % m ≡ 0 → (there n : ℕ) → there_or_zero there n ≡ true → bool_byte (flag there) ∷ n % m ∷ [] ≡ optional_words (cond (eqb there 0) None (Some (n % m)))
+optional_same m zero_mod there n h = go (eqb there 0) h
   where
-    go : (t : Bool) → not t || eqb n 0 ≡ true → bool_byte (not t) ∷ n % 65536 ∷ [] ≡ saved_words (cond t SavedColumn.None (SavedColumn.Column (n % 65536)))
-    go true h = ap (λ (k : ℕ). 0 ∷ k % 65536 ∷ []) (eqb-true n 0 h)
-    go false h = refl
-
-pending_same : (there n : ℕ) → there_or_zero there n ≡ true → bool_byte (flag there) ∷ n % 256 ∷ [] ≡ pending_words (cond (eqb there 0) Pending.None (Pending.Command (n % 256)))
-pending_same there n h = go (eqb there 0) h
-  where
-    go : (t : Bool) → not t || eqb n 0 ≡ true → bool_byte (not t) ∷ n % 256 ∷ [] ≡ pending_words (cond t Pending.None (Pending.Command (n % 256)))
-    go true h = ap (λ (k : ℕ). 0 ∷ k % 256 ∷ []) (eqb-true n 0 h)
+    go : (t : Bool) → not t || eqb n 0 ≡ true → bool_byte (not t) ∷ n % m ∷ [] ≡ optional_words (cond t None (Some (n % m)))
+    go true h = ap (λ (k : ℕ). 0 ∷ k % m ∷ []) (eqb-true n 0 h) ∙ ap (λ (k : ℕ). 0 ∷ k ∷ []) zero_mod
     go false h = refl
 
 -- ---- the groups
@@ -151,21 +143,21 @@ module _ (w : List ℕ) (long : length w ≡ 75) where
       ∙ ap (λ (r : List ℕ). all_again (replicate 4 2 ++ (65536 ∷ 2 ^ 32 ∷ 2 ∷ [])) 55 w r) (zero_same 62 w (omega (arith, long)) a
       ∙ ap (λ (r : List ℕ). 0 ∷ r) (zero_same 63 w (omega (arith, long)) b
       ∙ ap (λ (r : List ℕ). 0 ∷ r) (zero_same 64 w (omega (arith, long)) c)))
-      ∙ ap (λ (n : ℕ). power_part (power_with (temperature_of (get_or w 60 0)) (cond (eqb n 0) Ready.Now (Ready.At (time (get_or w 63 0) (get_or w 64 0)))) w) ++ drop 65 w) (sym a)
+      ∙ ap (λ (n : ℕ). power_part (power_with (temperature_of (get_or w 60 0)) (cond (eqb n 0) None (Some (time (get_or w 63 0) (get_or w 64 0)))) w) ++ drop 65 w) (sym a)
 
   serial_same : (t : Bool) → fits_by t (2 ∷ 2 ∷ 256 ∷ 256 ∷ 2 ∷ 256 ∷ []) 69 w ≡ true → there_or_zero (get_or w 73 0) (get_or w 74 0) ≡ true → (t ≡ true) × (drop 69 w ≡ serial_part (serial_in w) ++ drop 75 w)
   unfolding serial_part serial_in pending_in
   serial_same t h z =
       let line = words_same (2 ∷ 2 ∷ 256 ∷ 256 ∷ 2 ∷ 256 ∷ []) 69 w t h (omega (arith, long)) in (
         line.0,
-        line.1 ∙ ap (λ (p : List ℕ). bool_byte (flag (get_or w 69 0)) ∷ bool_byte (flag (get_or w 70 0)) ∷ get_or w 71 0 % 256 ∷ get_or w 72 0 % 256 ∷ from 2 0 p (drop 75 w)) (pending_same (get_or w 73 0) (get_or w 74 0) z),
+        line.1 ∙ ap (λ (p : List ℕ). bool_byte (flag (get_or w 69 0)) ∷ bool_byte (flag (get_or w 70 0)) ∷ get_or w 71 0 % 256 ∷ get_or w 72 0 % 256 ∷ from 2 0 p (drop 75 w)) (optional_same 256 refl (get_or w 73 0) (get_or w 74 0) z),
       )
 
   address_same : fits_by true (256 ∷ 65536 ∷ 2 ∷ 65536 ∷ []) 65 w ≡ true → there_or_zero (get_or w 67 0) (get_or w 68 0) ≡ true → drop 65 w ≡ address_part (address_in w) ++ drop 69 w
   unfolding address_part address_in saved_in
   address_same h z =
       (words_same (256 ∷ 65536 ∷ 2 ∷ 65536 ∷ []) 65 w true h (omega (arith, long))).1
-      ∙ ap (λ (s : List ℕ). get_or w 65 0 % 256 ∷ get_or w 66 0 % 65536 ∷ from 2 0 s (drop 69 w)) (saved_same (get_or w 67 0) (get_or w 68 0) z)
+      ∙ ap (λ (s : List ℕ). get_or w 65 0 % 256 ∷ get_or w 66 0 % 65536 ∷ from 2 0 s (drop 69 w)) (optional_same 65536 refl (get_or w 67 0) (get_or w 68 0) z)
 
 -- ---- the block
 record Fit (w : List ℕ) : Type 0 where

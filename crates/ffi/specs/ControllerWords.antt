@@ -1,48 +1,44 @@
 -- The calls of the controller over a block of words and lent memory. A block that holds no state has number 20, before every
 -- other check.
-use Rattle.std.specs.Prelude.{ℕ, Bool, true, false, cond, List, [], ◌∷◌, ◌⊎◌, ◌≡◌, ℤ, get_or}
+use Rattle.std.specs.Prelude.{ℕ, Bool, true, false, cond, List, [], ◌∷◌, ◌⊎◌, ◌≡◌, ℤ, get_or, Option, Some, None, Result}
 use Rattle.std.proofs.Common.{inl}
-use Rattle.std.proofs.Math.Option.{Option, none, some}
+use Rattle.checks.specs.Checks.{numbered}
 use Rattle.voltage.specs.declared.LcdVoltages.{LcdVoltages}
+use Rattle.voltage.specs.declared.finder.Pair.{Pair}
 use Rattle.scan.specs.declared.drive.LcdDrive.{LcdDrive}
 use Rattle.scan.specs.Drive.{off}
 use Rattle.clock.specs.declared.time.Time.{Time}
 use Rattle.controller.specs.declared.state.Nt7508.{Nt7508}
 use Rattle.controller.specs.declared.event.Event.{Event}
-use Rattle.controller.specs.declared.event.Parameter.{Parameter}
-use Rattle.controller.specs.declared.look.Found.{Found}
+use Rattle.controller.specs.declared.check.Refusal.{Refusal}
 use Rattle.controller.specs.Check.{number}
 use Rattle.controller.specs.Bits.{Outcome, quiet, rising, shift_in}
 use Rattle.controller.specs.Supply.{select, command_data, set_temperature, set_supply, at_deadline, lose_volatile}
 use Rattle.controller.specs.Update.{update}
 use Rattle.controller.specs.Look.{voltages_of, drive_of, render_of, serial_effect_edges, deadline_of, SaysOf, restore}
+use Rattle.ffi.specs.Words.{status, stored, optional_words}
 use Rattle.ffi.specs.ClockWords.{time}
+use Rattle.ffi.specs.VoltageWords.{pair_words}
 use Rattle.ffi.specs.StateWords.{holds_state, state_of}
 
 -- the answer of a call for the state of a block; where the block holds none, number 20 and the value given
 abbrev pub on_block : {A : Type 0} → (w : List ℕ) → Option ℕ × A → (given : A) → Option ℕ × A
-on_block w r given = cond (holds_state w) r (some 20, given)
+on_block w r given = cond (holds_state w) r (Some 20, given)
 
 abbrev pub answer_on : {A : Type 0} → (w : List ℕ) → ℕ ⊎ A → ℕ ⊎ A
 answer_on w r = cond (holds_state w) r (inl 20)
 
 -- an event: its kind, page, column, value or command, whether it has a parameter, the parameter, and its time
-abbrev pub parameter_words : Parameter → List ℕ
-parameter_words Parameter.None = 0 ∷ 0 ∷ []
-parameter_words (Parameter.Byte b) = 1 ∷ b ∷ []
-
 abbrev pub control_words : (parameter : List ℕ) → Time → (command : ℕ) → List ℕ
 control_words p at command = 2 ∷ 0 ∷ 0 ∷ command ∷ get_or p 0 0 ∷ get_or p 1 0 ∷ at.seconds ∷ at.fraction ∷ []
 
-abbrev pub event_words : Event → List ℕ
-event_words Event.None = 0 ∷ 0 ∷ 0 ∷ 0 ∷ 0 ∷ 0 ∷ 0 ∷ 0 ∷ []
-event_words (Event.Write at page column value) = 1 ∷ page ∷ column ∷ value ∷ 0 ∷ 0 ∷ at.seconds ∷ at.fraction ∷ []
-event_words (Event.Control at command parameter) = control_words (parameter_words parameter) at command
+abbrev pub told_words : Event → List ℕ
+told_words (Event.Write at page column value) = 1 ∷ page ∷ column ∷ value ∷ 0 ∷ 0 ∷ at.seconds ∷ at.fraction ∷ []
+told_words (Event.Control at command parameter) = control_words (optional_words parameter) at command
 
--- the end of the wait: whether there is one, and its time
-abbrev pub deadline_words : Option Time → List ℕ
-deadline_words none = 0 ∷ 0 ∷ 0 ∷ []
-deadline_words (some t) = 1 ∷ t.seconds ∷ t.fraction ∷ []
+abbrev pub event_words : Option Event → List ℕ
+event_words None = 0 ∷ 0 ∷ 0 ∷ 0 ∷ 0 ∷ 0 ∷ 0 ∷ 0 ∷ []
+event_words (Some e) = told_words e
 
 -- the calls that change the state
 abbrev pub rising_on : (w : List ℕ) → (bit : Bool) → (seconds fraction : ℕ) → (ram icons : List ℕ) → Option ℕ × Outcome
@@ -92,23 +88,12 @@ edges_on w high = answer_on w (serial_effect_edges (state_of w) high)
 abbrev pub deadline_on : List ℕ → ℕ ⊎ Option Time
 deadline_on w = answer_on w (deadline_of (state_of w))
 
--- the finder's: whether a pair was found, then its regulator and contrast
-abbrev pub found_number : Found → ℕ
-found_number (Found.Setting r c) = 0
-found_number Found.None = 0
-found_number (Found.Refused why) = number why
-
-abbrev pub found_words : Found → List ℕ → List ℕ
-found_words (Found.Setting r c) w = 1 ∷ r ∷ c ∷ []
-found_words Found.None w = 0 ∷ 0 ∷ 0 ∷ []
-found_words (Found.Refused why) w = w
-
 -- the number and the words of an answer of which the finder's rule holds
 pub record FoundFor (x : Nt7508) (low high : ℕ) (before : List ℕ) (result : ℕ) (after : List ℕ) : Type 0 where
-  pub found : Found
+  pub found : Result (Option Pair) Refusal
   pub says : SaysOf x low high found
-  pub answers : result ≡ found_number found
-  pub leaves : after ≡ found_words found before
+  pub answers : result ≡ status (numbered number found)
+  pub leaves : after ≡ stored pair_words (numbered number found) before
 
 -- and where the block holds no state
 pub record FoundOn (w : List ℕ) (low high : ℕ) (before : List ℕ) (result : ℕ) (after : List ℕ) : Type 0 where

@@ -1,14 +1,13 @@
 -- Conditions, drives and the levels of electrodes as words.
-use Rattle.std.specs.Prelude.{ℕ, ◌%◌, ◌^◌, Bool, cond, List, [], ◌∷◌, ℤ, ltb, get_or}
-use Rattle.std.proofs.Math.Option.{Option, none, some}
-use Rattle.voltage.specs.declared.Level.{Level}
+use Rattle.std.specs.Prelude.{ℕ, ◌%◌, ◌^◌, Bool, cond, List, [], ◌∷◌, ℤ, ltb, get_or, Option, Some, None, Result, Ok, Err}
+use mir.Val.{bool_byte}
 use Rattle.scan.specs.declared.drive.Conditions.{Conditions}
-use Rattle.scan.specs.declared.drive.Common.{Common}
+use Rattle.scan.specs.declared.drive.Driven.{Driven}
 use Rattle.scan.specs.declared.drive.LcdDrive.{LcdDrive}
-use Rattle.scan.specs.Drive.{drive_scan}
+use Rattle.scan.specs.Drive.{off, drive_scan}
 use Rattle.ffi.specs.ClockWords.{time}
 use Rattle.ffi.specs.VoltageWords.{supply_of, voltage_words}
-use Rattle.ffi.specs.ScanWords.{flag, flag_byte, settings_of, scan_of}
+use Rattle.ffi.specs.ScanWords.{flag, settings_of, scan_of}
 use Rattle.ffi.specs.VoltageWords as volts
 
 abbrev pub conditions_of : (display_on oscillator_enabled : Bool) → (millivolts : ℕ) → (temperature : ℤ) → (power_save waiting : Bool) → Conditions
@@ -19,9 +18,9 @@ conditions_of on enabled millivolts temperature power_save waiting = record {
 }
 
 -- a common: its number, or 129, which no common has, where none is selected
-abbrev pub common_word : Common → ℕ
-common_word (Common.Selected n) = n
-common_word Common.None = 129
+abbrev pub common_word : Option ℕ → ℕ
+common_word None = 129
+common_word (Some n) = n
 
 -- the 12 words of a drive whose voltages have these words
 abbrev pub drive_words_with : (voltages : List ℕ) → LcdDrive → List ℕ
@@ -29,8 +28,8 @@ drive_words_with v d =
     common_word d.common
     ∷ get_or d.segments 0 0
     ∷ get_or d.segments 1 0
-    ∷ flag_byte d.inverted
-    ∷ flag_byte d.grounded
+    ∷ bool_byte d.inverted
+    ∷ bool_byte d.grounded
     ∷ get_or v 0 0
     ∷ get_or v 1 0
     ∷ get_or v 2 0
@@ -44,12 +43,12 @@ abbrev pub drive_words : LcdDrive → List ℕ
 drive_words d = drive_words_with (voltage_words d.voltages) d
 
 -- numbers below 129 select a common
-abbrev pub common_of : ℕ → Common
-common_of n = cond (ltb n 129) (Common.Selected (n % 256)) Common.None
+abbrev pub common_of : ℕ → Option ℕ
+common_of n = cond (ltb n 129) (Some (n % 256)) None
 
 -- a level of less than 2^32 microvolts is present
-abbrev pub level_of : ℕ → Level
-level_of n = cond (ltb n (2 ^ 32)) (Level.Microvolts (n % 2 ^ 32)) Level.Absent
+abbrev pub level_of : ℕ → Option ℕ
+level_of n = cond (ltb n (2 ^ 32)) (Some (n % 2 ^ 32)) None
 
 -- the drive of 12 words
 abbrev pub drive_of : List ℕ → LcdDrive
@@ -69,10 +68,10 @@ drive_of w = record {
   grounded = flag (get_or w 4 0);
 }
 
--- an electrode: its microvolts, or 2^32 where there is none
-abbrev pub electrode_word : Option ℕ → ℕ
-electrode_word (some v) = v
-electrode_word none = 2 ^ 32
+-- an answer, by the numbers of its refusals: a refusal gives the undriven drive
+abbrev pub driven_by : {E : Type 0} → (E → ℕ) → Result Driven E → Option ℕ × (LcdDrive × ℕ)
+driven_by number (Ok d) = (None, (d.drive, d.frame))
+driven_by number (Err why) = (Some (number why), (off, 0))
 
 -- the answer of the drive call, from what is lent
 abbrev pub driven_of : (words bytes settings analog : List ℕ) → Conditions → (seconds fraction : ℕ) → (ram icons : List ℕ) → Option ℕ × (LcdDrive × ℕ)

@@ -1,9 +1,9 @@
 -- The tests that src/fast_words.rt makes of a block before the fast path of a byte, and the words that it then puts there. Nothing
 -- here is a rule; proofs/Moved.antt shows that the block then has the words of the state that the byte leaves.
-use Rattle.std.specs.Prelude.{ℕ, Bool, true, cond, not, ◌&&◌, ◌||◌, List, eqb, get_or, set}
+use Rattle.std.specs.Prelude.{ℕ, Bool, true, cond, not, ◌&&◌, ◌||◌, List, eqb, get_or, set, Option, Some, None}
 use mir.Val.{bool_byte}
 use Rattle.scan.specs.declared.state.Scan.{Scan}
-use Rattle.scan.specs.declared.state.ScanClock.{ScanClock}
+use Rattle.clock.specs.declared.edges.Clock.{Clock}
 use Rattle.controller.specs.declared.state.Address.{Address}
 use Rattle.controller.specs.declared.fast.FastStep.{FastStep}
 
@@ -36,9 +36,9 @@ unfoldable pub clock_zero : List ℕ → Bool
 clock_zero w = cond (eqb (get_or w 0 0) 0) (eight_zero w) true
 
 -- a clock that runs moves its last edge, its fraction and its ordinal
-unfoldable pub clock_put : ScanClock → List ℕ → List ℕ
-clock_put (ScanClock.Running c) w = set (set (set (set w 1 c.at.seconds) 2 c.at.fraction) 7 c.fraction) 8 c.ordinal
-clock_put ScanClock.Stopped w = w
+unfoldable pub clock_put : Option Clock → List ℕ → List ℕ
+clock_put (Some c) w = set (set (set (set w 1 c.at.seconds) 2 c.at.fraction) 7 c.fraction) 8 c.ordinal
+clock_put None w = w
 
 -- latch and counters
 unfoldable pub latch_put : Scan → List ℕ → List ℕ

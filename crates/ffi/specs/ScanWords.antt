@@ -1,10 +1,10 @@
 -- Settings, scans and the answers of the scan as words.
-use Rattle.std.specs.Prelude.{ℕ, Bool, cond, not, List, [], ◌∷◌, eqb, get_or}
-use Rattle.std.proofs.Math.Option.{Option}
+use Rattle.std.specs.Prelude.{ℕ, Bool, cond, not, List, [], ◌∷◌, eqb, get_or, Option, Some, None}
+use Rattle.std.specs.Bool.{then_some}
+use mir.Val.{bool_byte}
+use Rattle.clock.specs.declared.edges.Clock.{Clock}
 use Rattle.scan.specs.declared.settings.Settings.{Settings}
-use Rattle.scan.specs.declared.latch.DataPage.{DataPage}
 use Rattle.scan.specs.declared.state.Scan.{Scan}
-use Rattle.scan.specs.declared.state.ScanClock.{ScanClock}
 use Rattle.scan.specs.Count.{count_scan}
 use Rattle.scan.specs.Run.{running_after, before_byte, after_byte, fall_scan}
 use Rattle.ffi.specs.ClockWords.{clock_of, clock_words, rate, time}
@@ -12,9 +12,6 @@ use Rattle.ffi.specs.ClockWords.{clock_of, clock_words, rate, time}
 -- any number but 0 says yes
 abbrev pub flag : ℕ → Bool
 flag n = not (eqb n 0)
-
-abbrev pub flag_byte : Bool → ℕ
-flag_byte b = cond b 1 0
 
 -- the settings of twenty bytes
 abbrev pub settings_of : List ℕ → Settings
@@ -34,17 +31,13 @@ settings_of b = record {
   oscillator_frequency = get_or b 19 0;
 }
 
--- the page of a data byte, or none for a command
-abbrev pub page_of : (sent : Bool) → (page : ℕ) → DataPage
-page_of sent page = cond sent (DataPage.Page page) DataPage.None
-
 -- the clock of a scan: whether it runs, and its eight words
-abbrev pub running_of : (running : ℕ) → (clock : List ℕ) → ScanClock
-running_of running clock = cond (flag running) (ScanClock.Running (clock_of clock)) ScanClock.Stopped
+abbrev pub running_of : (running : ℕ) → (clock : List ℕ) → Option Clock
+running_of running clock = cond (flag running) (Some (clock_of clock)) None
 
-abbrev pub running_words : ScanClock → List ℕ
-running_words (ScanClock.Running c) = 1 ∷ clock_words c
-running_words ScanClock.Stopped = 0 ∷ 0 ∷ 0 ∷ 0 ∷ 0 ∷ 0 ∷ 0 ∷ 0 ∷ 0 ∷ []
+abbrev pub running_words : Option Clock → List ℕ
+running_words (Some c) = 1 ∷ clock_words c
+running_words None = 0 ∷ 0 ∷ 0 ∷ 0 ∷ 0 ∷ 0 ∷ 0 ∷ 0 ∷ 0 ∷ []
 
 -- the scan of 13 words and 14 bytes
 abbrev pub scan_of : (words bytes : List ℕ) → Scan
@@ -93,9 +86,9 @@ scan_words x = words_with (running_words x.ticking.clock) x
 abbrev pub scan_bytes : Scan → List ℕ
 scan_bytes x =
     x.frame.duty
-    ∷ flag_byte x.frame.icon
+    ∷ bool_byte x.frame.icon
     ∷ x.frame.initial_com
-    ∷ flag_byte x.frame.common_reverse
+    ∷ bool_byte x.frame.common_reverse
     ∷ x.frame.start_line
     ∷ x.pwm
     ∷ x.frame.frc_count
@@ -104,8 +97,8 @@ scan_bytes x =
     ∷ x.frc
     ∷ x.inversion.lines
     ∷ x.inversion.count
-    ∷ flag_byte x.inversion.inverted
-    ∷ flag_byte x.latch.latched
+    ∷ bool_byte x.inversion.inverted
+    ∷ bool_byte x.latch.latched
     ∷ []
 
 -- the answers of the scan's calls, from what is lent
@@ -114,7 +107,7 @@ counted_of words bytes settings seconds fraction = count_scan (scan_of words byt
 
 abbrev pub before_of : (words bytes settings : List ℕ) → (seconds fraction : ℕ) → (sent : Bool) → (page : ℕ) → (ram icons : List ℕ) → Option ℕ × Scan
 before_of words bytes settings seconds fraction sent page ram icons =
-    before_byte (scan_of words bytes) (settings_of settings) (time seconds fraction) (page_of sent page) ram icons
+    before_byte (scan_of words bytes) (settings_of settings) (time seconds fraction) (then_some sent page) ram icons
 
 abbrev pub after_of : (words bytes settings : List ℕ) → (seconds fraction : ℕ) → (was_running running : Bool) → (ram icons : List ℕ) → Option ℕ × Scan
 after_of words bytes settings seconds fraction was_running running ram icons =

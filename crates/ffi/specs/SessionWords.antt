@@ -1,18 +1,17 @@
 -- The session program over words: its status, the block of the state that it left, lent memory and listing, and two words, how
 -- many bytes it wrote and the line of its refusal.
-use Rattle.std.specs.Prelude.{ℕ, cond, List, [], ◌∷◌, eqb, length}
-use Rattle.std.proofs.Math.Option.{Option, none, some}
+use Rattle.std.specs.Prelude.{ℕ, cond, List, [], ◌∷◌, eqb, length, Option, Some, None}
 use Rattle.session.specs.Session.{Answer, session}
 use Rattle.ffi.specs.StateWords.{state_words}
 
 -- the number of a refusal and its line; 0 where there is none
 abbrev pub refusal_number : Option (ℕ × ℕ) → ℕ
-refusal_number none = 0
-refusal_number (some at) = at.0
+refusal_number None = 0
+refusal_number (Some at) = at.0
 
 abbrev pub refusal_line : Option (ℕ × ℕ) → ℕ
-refusal_line none = 0
-refusal_line (some at) = at.1
+refusal_line None = 0
+refusal_line (Some at) = at.1
 
 -- the status of a call, and everything that is lent as it stands after it
 pub record Answered : Type 0 where

@@ -1,19 +1,18 @@
 -- The controller's state as a block of 75 words, one for each field in the order of declaration; src/state_words.rt lists them.
-use Rattle.std.specs.Prelude.{ℕ, ◌%◌, ◌^◌, Bool, true, cond, ◌&&◌, List, [], ◌∷◌, ◌++◌, ltb, eqb, ℤ, pos, nat_abs, ◌+ℤ◌, ◌-ℤ◌, length, get_or}
+use Rattle.std.specs.Prelude.{ℕ, ◌%◌, ◌^◌, Bool, true, cond, ◌&&◌, List, [], ◌∷◌, ◌++◌, ltb, eqb, ℤ, pos, nat_abs, ◌+ℤ◌, ◌-ℤ◌, length, get_or, Option, Some, None}
 use Rattle.std.proofs.Math.Seq.{paste}
 use mir.Val.{bool_byte}
 use Rattle.scan.specs.declared.settings.Settings as display
 use Rattle.scan.specs.declared.state.Scan.{Scan}
-use Rattle.scan.specs.declared.state.ScanClock.{ScanClock}
 use Rattle.voltage.specs.declared.Settings as analog
 use Rattle.controller.specs.declared.state.Nt7508.{Nt7508}
 use Rattle.controller.specs.declared.state.Serial.{Serial}
-use Rattle.controller.specs.declared.state.Pending.{Pending}
 use Rattle.controller.specs.declared.state.Address.{Address}
-use Rattle.controller.specs.declared.state.SavedColumn.{SavedColumn}
 use Rattle.controller.specs.declared.state.Power.{Power}
-use Rattle.controller.specs.declared.state.Ready.{Ready}
-use Rattle.ffi.specs.ClockWords.{time, rate}
+use Rattle.clock.specs.declared.time.Time.{Time}
+use Rattle.clock.specs.declared.edges.Clock.{Clock}
+use Rattle.ffi.specs.Words.{optional_words}
+use Rattle.ffi.specs.ClockWords.{time, rate, deadline_words}
 use Rattle.ffi.specs.ScanWords.{flag, running_of, running_words}
 
 -- each word fits its field: a yes or no, a byte, two bytes, or the four of the temperature; other words may be anything
@@ -112,10 +111,10 @@ abbrev pub wider_fit : List ℕ → Bool
 wider_fit w = ltb (get_or w 59 0) 65536 && ltb (get_or w 60 0) (2 ^ 32) && ltb (get_or w 66 0) 65536 && ltb (get_or w 68 0) 65536
 
 -- the state of a block
-unfoldable pub clock_in : List ℕ → ScanClock
+unfoldable pub clock_in : List ℕ → Option Clock
 clock_in w = running_of (get_or w 0 0) (get_or w 1 0 ∷ get_or w 2 0 ∷ get_or w 3 0 ∷ get_or w 4 0 ∷ get_or w 5 0 ∷ get_or w 6 0 ∷ get_or w 7 0 ∷ get_or w 8 0 ∷ [])
 
-abbrev pub scan_with : ScanClock → List ℕ → Scan
+abbrev pub scan_with : Option Clock → List ℕ → Scan
 scan_with clock w = record {
   ticking = record { clock = clock; rate = rate (get_or w 9 0) (get_or w 10 0) };
   latch = record { segments = get_or w 11 0 ∷ get_or w 12 0 ∷ []; latched = flag (get_or w 13 0) };
@@ -179,10 +178,10 @@ analog_in w = record {
 abbrev pub temperature_of : ℕ → ℤ
 temperature_of n = pos (n % 2 ^ 32) -ℤ pos 2147483648
 
-unfoldable pub ready_in : List ℕ → Ready
-ready_in w = cond (eqb (get_or w 62 0) 0) Ready.Now (Ready.At (time (get_or w 63 0) (get_or w 64 0)))
+unfoldable pub ready_in : List ℕ → Option Time
+ready_in w = cond (eqb (get_or w 62 0) 0) None (Some (time (get_or w 63 0) (get_or w 64 0)))
 
-abbrev pub power_with : (temperature : ℤ) → Ready → List ℕ → Power
+abbrev pub power_with : (temperature : ℤ) → Option Time → List ℕ → Power
 power_with temperature ready w = record {
   display_on = flag (get_or w 55 0);
   power_save = flag (get_or w 56 0);
@@ -197,19 +196,19 @@ power_with temperature ready w = record {
 unfoldable pub power_in : List ℕ → Power
 power_in w = power_with (temperature_of (get_or w 60 0)) (ready_in w) w
 
-unfoldable pub saved_in : List ℕ → SavedColumn
-saved_in w = cond (eqb (get_or w 67 0) 0) SavedColumn.None (SavedColumn.Column (get_or w 68 0 % 65536))
+unfoldable pub saved_in : List ℕ → Option ℕ
+saved_in w = cond (eqb (get_or w 67 0) 0) None (Some (get_or w 68 0 % 65536))
 
-abbrev pub address_with : SavedColumn → List ℕ → Address
+abbrev pub address_with : Option ℕ → List ℕ → Address
 address_with saved w = record { page = get_or w 65 0 % 256; column_byte = get_or w 66 0 % 65536; saved_column = saved }
 
 unfoldable pub address_in : List ℕ → Address
 address_in w = address_with (saved_in w) w
 
-unfoldable pub pending_in : List ℕ → Pending
-pending_in w = cond (eqb (get_or w 73 0) 0) Pending.None (Pending.Command (get_or w 74 0 % 256))
+unfoldable pub pending_in : List ℕ → Option ℕ
+pending_in w = cond (eqb (get_or w 73 0) 0) None (Some (get_or w 74 0 % 256))
 
-abbrev pub serial_with : Pending → List ℕ → Serial
+abbrev pub serial_with : Option ℕ → List ℕ → Serial
 serial_with pending w = record { selected = flag (get_or w 69 0); «data» = flag (get_or w 70 0); shift = get_or w 71 0 % 256; bits = get_or w 72 0 % 256; pending = pending }
 
 unfoldable pub serial_in : List ℕ → Serial
@@ -298,10 +297,6 @@ analog_part a =
 abbrev pub temperature_word : ℤ → ℕ
 temperature_word t = nat_abs (t +ℤ pos 2147483648)
 
-abbrev pub ready_words : Ready → List ℕ
-ready_words Ready.Now = 0 ∷ 0 ∷ 0 ∷ []
-ready_words (Ready.At t) = 1 ∷ t.seconds ∷ t.fraction ∷ []
-
 abbrev pub power_part_with : (temperature : ℕ) → (ready : List ℕ) → Power → List ℕ
 power_part_with t r p =
     bool_byte p.display_on
@@ -317,27 +312,19 @@ power_part_with t r p =
     ∷ []
 
 unfoldable pub power_part : Power → List ℕ
-power_part p = power_part_with (temperature_word p.temperature_millicelsius) (ready_words p.ready) p
-
-abbrev pub saved_words : SavedColumn → List ℕ
-saved_words SavedColumn.None = 0 ∷ 0 ∷ []
-saved_words (SavedColumn.Column c) = 1 ∷ c ∷ []
+power_part p = power_part_with (temperature_word p.temperature_millicelsius) (deadline_words p.ready) p
 
 abbrev pub address_part_with : (saved : List ℕ) → Address → List ℕ
 address_part_with s a = a.page ∷ a.column_byte ∷ get_or s 0 0 ∷ get_or s 1 0 ∷ []
 
 unfoldable pub address_part : Address → List ℕ
-address_part a = address_part_with (saved_words a.saved_column) a
-
-abbrev pub pending_words : Pending → List ℕ
-pending_words Pending.None = 0 ∷ 0 ∷ []
-pending_words (Pending.Command b) = 1 ∷ b ∷ []
+address_part a = address_part_with (optional_words a.saved_column) a
 
 abbrev pub serial_part_with : (pending : List ℕ) → Serial → List ℕ
 serial_part_with p l = bool_byte l.selected ∷ bool_byte l.«data» ∷ l.shift ∷ l.bits ∷ get_or p 0 0 ∷ get_or p 1 0 ∷ []
 
 unfoldable pub serial_part : Serial → List ℕ
-serial_part l = serial_part_with (pending_words l.pending) l
+serial_part l = serial_part_with (optional_words l.pending) l
 
 -- words at a place of a block
 unfoldable pub pasted : (w : List ℕ) → (at : ℕ) → (words : List ℕ) → List ℕ

@@ -1,12 +1,14 @@
 -- Settings, levels and the answers of the voltages and of the setting finder as words.
-use Rattle.std.specs.Prelude.{ℕ, ◌^◌, Bool, List, [], ◌∷◌, ◌≡◌, ℤ, get_or}
+use Rattle.std.specs.Prelude.{ℕ, ◌^◌, Bool, List, [], ◌∷◌, ◌≡◌, ℤ, get_or, Option, Some, None, Result}
+use Rattle.checks.specs.Checks.{numbered}
 use Rattle.voltage.specs.declared.Settings.{Settings}
 use Rattle.voltage.specs.declared.Supply.{Supply}
-use Rattle.voltage.specs.declared.Level.{Level}
 use Rattle.voltage.specs.declared.LcdVoltages.{LcdVoltages}
-use Rattle.voltage.specs.declared.finder.Found.{Found}
+use Rattle.voltage.specs.declared.check.Refusal.{Refusal}
+use Rattle.voltage.specs.declared.finder.Pair.{Pair}
 use Rattle.voltage.specs.Check.{number}
 use Rattle.voltage.specs.Finder.{Says}
+use Rattle.ffi.specs.Words.{status, stored}
 
 -- the settings of eight bytes
 abbrev pub settings_of : List ℕ → Settings
@@ -29,10 +31,10 @@ supply_of millivolts temperature power_save waiting = record {
   waiting = waiting;
 }
 
--- a level: its microvolts, or 2^32, which no level has, where it is absent
-abbrev pub level_word : Level → ℕ
-level_word Level.Absent = 2 ^ 32
-level_word (Level.Microvolts v) = v
+-- a level, or that of an electrode: its microvolts, or 2^32, which no level has, where it is absent
+abbrev pub level_word : Option ℕ → ℕ
+level_word None = 2 ^ 32
+level_word (Some v) = v
 
 abbrev pub voltage_words : LcdVoltages → List ℕ
 voltage_words v =
@@ -45,20 +47,14 @@ voltage_words v =
     ∷ level_word v.v4
     ∷ []
 
--- the finder's: whether a pair was found, then its regulator and contrast
-abbrev pub found_number : Found → ℕ
-found_number (Found.Setting r c) = 0
-found_number Found.None = 0
-found_number (Found.Refused why) = number why
-
-abbrev pub found_words : Found → List ℕ → List ℕ
-found_words (Found.Setting r c) w = 1 ∷ r ∷ c ∷ []
-found_words Found.None w = 0 ∷ 0 ∷ 0 ∷ []
-found_words (Found.Refused why) w = w
+-- what a finder found: whether there is a pair, then its regulator and contrast
+abbrev pub pair_words : Option Pair → List ℕ
+pair_words None = 0 ∷ 0 ∷ 0 ∷ []
+pair_words (Some p) = 1 ∷ p.regulator ∷ p.contrast ∷ []
 
 -- the number and the words of an answer of which the finder's rule holds
 pub record FinderAnswers (s : Settings) (temperature : ℤ) (low high : ℕ) (before : List ℕ) (result : ℕ) (after : List ℕ) : Type 0 where
-  pub found : Found
+  pub found : Result (Option Pair) Refusal
   pub says : Says s temperature low high found
-  pub answers : result ≡ found_number found
-  pub leaves : after ≡ found_words found before
+  pub answers : result ≡ status (numbered number found)
+  pub leaves : after ≡ stored pair_words (numbered number found) before

@@ -2,12 +2,14 @@
 // eight: its last edge, its period (two words and a remainder), denominator, fraction and ordinal.
 ghost use Rattle.std.specs.Prelude.{◌≡◌};
 ghost use Rattle.clock.specs.Time.{time_of, micros_raw};
-ghost use Rattle.clock.specs.Check.{number, refused, check_clock};
-ghost use Rattle.clock.specs.Edges.{answered_clock, answered_count, answered_pass, new_clock, count_edges, move_clock, pass_edges};
+ghost use Rattle.clock.specs.Check.{check_clock};
+ghost use Rattle.clock.specs.Edges.{new_clock, count_edges, move_clock, pass_edges};
 ghost use Rattle.ffi.specs.Words.{status, check_status, stored};
-ghost use Rattle.ffi.specs.ClockWords.{time_words, time, rate, clock_of, clock_words, passed_count, passed_words};
+ghost use Rattle.ffi.specs.ClockWords.{time_words, deadline_words, time, rate, clock_of, clock_words, passed_count, passed_words};
 
-use clock::{Check, Clock, Edges, Made, Passed, Rate, Refusal, Time, Wide};
+use crate::words::{Words, put, status};
+use checks::Numbered;
+use clock::{Clock, Rate, Time, Wide};
 
 pub(crate) fn clock_of(words: &[u64; 8]) -> Clock
     ensures { result ≡ clock_of words.now }
@@ -28,84 +30,46 @@ pub(crate) fn clock_of(words: &[u64; 8]) -> Clock
     }
 }
 
-pub(crate) fn words_of(clock: Clock) -> [u64; 8]
-    ensures { result ≡ clock_words clock }
-{
-    let at = clock.at;
-    let whole = clock.whole;
-    [
-        at.seconds,
-        at.fraction,
-        whole.high,
-        whole.low,
-        clock.remainder,
-        clock.denominator,
-        clock.fraction,
-        clock.ordinal,
-    ]
-}
+impl Words for Time {
+    type Words = [u64; 2];
 
-fn number_of(refusal: Refusal) -> u64
-    ensures { result ≡ number refusal }
-{
-    match refusal {
-        Refusal::Time => 1,
-        Refusal::Rate => 4,
-        Refusal::Clock => 5,
+    ghost words = { time_words };
+
+    fn words(self) -> [u64; 2] {
+        [self.seconds, self.fraction]
     }
 }
 
-// A clock that was made goes out, and a refusal leaves what is there.
-fn made(answer: Made, out: &mut [u64; 8]) -> u64
-    ensures answers { result ≡ status (answered_clock answer) }
-    ensures leaves { out.new ≡ stored clock_words (answered_clock answer) out.old }
-{
-    match answer {
-        Made::Clock(clock) => {
-            *out = words_of(clock);
-            0
+// The end of a wait: whether there is one, its seconds and fraction.
+impl Words for Option<Time> {
+    type Words = [u64; 3];
+
+    ghost words = { deadline_words };
+
+    fn words(self) -> [u64; 3] {
+        match self {
+            None => [0; 3],
+            Some(end) => [1, end.seconds, end.fraction],
         }
-        Made::Refused(refusal) => number_of(refusal),
     }
 }
 
-fn checked(answer: Check) -> u64
-    ensures { result ≡ check_status (refused answer) }
-{
-    match answer {
-        Check::Passed => 0,
-        Check::Refused(refusal) => number_of(refusal),
-    }
-}
+impl Words for Clock {
+    type Words = [u64; 8];
 
-fn counted(answer: Edges, out: &mut u64) -> u64
-    ensures answers { result ≡ status (answered_count answer) }
-    ensures leaves { out.new ≡ stored (λ n. n) (answered_count answer) out.old }
-{
-    match answer {
-        Edges::Count(edges) => {
-            *out = edges;
-            0
-        }
-        Edges::Refused(refusal) => number_of(refusal),
-    }
-}
+    ghost words = { clock_words };
 
-fn passed(answer: Passed, count: &mut u64, out: &mut [u64; 8]) -> u64
-    ensures answers { result ≡ status (answered_pass answer) }
-    ensures counts { count.new ≡ stored passed_count (answered_pass answer) count.old }
-    ensures leaves { out.new ≡ stored passed_words (answered_pass answer) out.old }
-{
-    match answer {
-        Passed::Edges {
-            count: edges,
-            clock,
-        } => {
-            *count = edges;
-            *out = words_of(clock);
-            0
-        }
-        Passed::Refused(refusal) => number_of(refusal),
+    fn words(self) -> [u64; 8] {
+        [
+            self.at.seconds,
+            self.at.fraction,
+            self.whole.high,
+            self.whole.low,
+            self.remainder,
+            self.denominator,
+            self.fraction,
+            self.ordinal,
+        ]
     }
 }
 
@@ -113,8 +77,7 @@ fn passed(answer: Passed, count: &mut u64, out: &mut [u64; 8]) -> u64
 pub fn nt7508_time_from_micros(us: u64, out: &mut [u64; 2])
     ensures { out.new ≡ time_words (time_of (micros_raw us)) }
 {
-    let time = Time::from_micros(us);
-    *out = [time.seconds, time.fraction];
+    *out = Time::from_micros(us).words();
 }
 
 // A clock of p / q edges a second that starts at a time.
@@ -122,15 +85,12 @@ pub fn nt7508_clock_new(seconds: u64, fraction: u64, p: u64, q: u64, out: &mut [
     ensures answers { result ≡ status (new_clock (time seconds fraction) (rate p q)) }
     ensures leaves { out.new ≡ stored clock_words (new_clock (time seconds fraction) (rate p q)) out.old }
 {
-    let at = Time {
-        seconds: seconds,
-        fraction: fraction,
-    };
+    let at = Time { seconds, fraction };
     let rate = Rate {
         numerator: p,
         denominator: q,
     };
-    made(Clock::new(at, rate), out)
+    put(Clock::new(at, rate), out)
 }
 
 // Whether a clock passes the checks of its rate.
@@ -141,7 +101,7 @@ pub fn nt7508_clock_check(clock: &[u64; 8], p: u64, q: u64) -> u64
         numerator: p,
         denominator: q,
     };
-    checked(clock_of(clock).check(rate))
+    status(clock_of(clock).check(rate))
 }
 
 // How many edges stand after the clock's last one and not later than a moment.
@@ -160,11 +120,8 @@ pub fn nt7508_clock_edges_to(
         numerator: p,
         denominator: q,
     };
-    let now = Time {
-        seconds: seconds,
-        fraction: fraction,
-    };
-    counted(clock_of(clock).edges_to(rate, now), out)
+    let now = Time { seconds, fraction };
+    put(clock_of(clock).edges_to(rate, now), out)
 }
 
 // The clock moved forward by edges, in place.
@@ -176,7 +133,7 @@ pub fn nt7508_clock_moved(clock: &mut [u64; 8], p: u64, q: u64, edges: u64) -> u
         numerator: p,
         denominator: q,
     };
-    made(clock_of(clock).moved(rate, edges), clock)
+    put(clock_of(clock).moved(rate, edges), clock)
 }
 
 // The clock moved to its last edge not later than a moment, by limit edges at the most, in place.
@@ -197,9 +154,13 @@ pub fn nt7508_clock_passed_to(
         numerator: p,
         denominator: q,
     };
-    let now = Time {
-        seconds: seconds,
-        fraction: fraction,
-    };
-    passed(clock_of(clock).passed_to(rate, now, limit), count, clock)
+    let now = Time { seconds, fraction };
+    match clock_of(clock).passed_to(rate, now, limit) {
+        Ok(passed) => {
+            *count = passed.count;
+            *clock = passed.clock.words();
+            0
+        }
+        Err(refusal) => refusal.number(),
+    }
 }

@@ -13,3 +13,4 @@ pub mod scan_words;
 pub mod session_words;
 mod state_words;
 pub mod voltage_words;
+mod words;

@@ -4,23 +4,17 @@
 // original's order. A yes or no is a byte or word other than 0, or 0.
 ghost use Rattle.std.specs.Prelude.{◌≡◌, length};
 ghost use Rattle.checks.specs.Checks.{unless_refused};
-ghost use Rattle.scan.specs.Check.{number, refused, answered, check_image};
+ghost use Rattle.scan.specs.Check.{answered, check_image};
+ghost use Rattle.scan.specs.declared.state.Scan.{Scan};
 ghost use Rattle.scan.specs.Image.{rendered};
 ghost use Rattle.ffi.specs.Words.{check_status};
-ghost use Rattle.ffi.specs.ScanWords.{flag_byte, settings_of, page_of, running_of, running_words, scan_of, scan_words, scan_bytes, counted_of, before_of, after_of, fallen_of};
+ghost use Rattle.ffi.specs.ScanWords.{settings_of, running_of, running_words, scan_of, scan_words, scan_bytes, counted_of, before_of, after_of, fallen_of};
 
-use crate::clock_words::{clock_of, words_of};
-use clock::{Rate, Time};
-use scan::{
-    Changed, Check, DataPage, Frame, Inversion, Latch, Refusal, Running, Scan, ScanClock, Settings,
-    Ticking,
-};
-
-pub(crate) fn flag_byte(yes: bool) -> u8
-    ensures { result ≡ flag_byte yes }
-{
-    if yes { 1 } else { 0 }
-}
+use crate::clock_words::clock_of;
+use crate::words::{Words, status};
+use checks::Numbered;
+use clock::{Clock, Rate, Time};
+use scan::{Frame, Inversion, Latch, Refusal, Running, Scan, Settings, Ticking};
 
 pub(crate) fn settings_of(b: &[u8; 20]) -> Settings
     ensures { result ≡ settings_of b.now }
@@ -42,32 +36,19 @@ pub(crate) fn settings_of(b: &[u8; 20]) -> Settings
     }
 }
 
-fn page_of(sent: bool, page: u8) -> DataPage
-    ensures { result ≡ page_of sent page }
-{
-    if sent {
-        return DataPage::Page(page);
-    }
-    DataPage::None
-}
-
-pub(crate) fn running_of(running: u64, words: &[u64; 8]) -> ScanClock
+pub(crate) fn running_of(running: u64, words: &[u64; 8]) -> Option<Clock>
     ensures { result ≡ running_of running words.now }
 {
-    if running == 0 {
-        return ScanClock::Stopped;
-    }
-    ScanClock::Running(clock_of(words))
+    (running != 0).then_some(clock_of(words))
 }
 
 pub(crate) fn scan_of(w: &[u64; 13], b: &[u8; 14]) -> Scan
     ensures { result ≡ scan_of w.now b.now }
 {
     let words = [w[1], w[2], w[3], w[4], w[5], w[6], w[7], w[8]];
-    let clock = running_of(w[0], &words);
     Scan {
         ticking: Ticking {
-            clock: clock,
+            clock: running_of(w[0], &words),
             rate: Rate {
                 numerator: w[9],
                 denominator: w[10],
@@ -98,27 +79,22 @@ pub(crate) fn scan_of(w: &[u64; 13], b: &[u8; 14]) -> Scan
 }
 
 // A clock that is stopped has no words of its own.
-pub(crate) fn running_words(clock: ScanClock) -> [u64; 9]
+pub(crate) fn running_words(clock: Option<Clock>) -> [u64; 9]
     ensures { result ≡ running_words clock }
 {
     match clock {
-        ScanClock::Running(running) => {
-            let c = words_of(running);
+        Some(running) => {
+            let c = running.words();
             [1, c[0], c[1], c[2], c[3], c[4], c[5], c[6], c[7]]
         }
-        ScanClock::Stopped => [0; 9],
+        None => [0; 9],
     }
 }
 
 fn scan_words(scan: Scan) -> [u64; 13]
     ensures { result ≡ scan_words scan }
 {
-    let ticking = scan.ticking;
-    let clock = ticking.clock;
-    let c = running_words(clock);
-    let rate = ticking.rate;
-    let latch = scan.latch;
-    let segments = latch.segments;
+    let c = running_words(scan.ticking.clock);
     [
         c[0],
         c[1],
@@ -129,82 +105,47 @@ fn scan_words(scan: Scan) -> [u64; 13]
         c[6],
         c[7],
         c[8],
-        rate.numerator,
-        rate.denominator,
-        segments[0],
-        segments[1],
+        scan.ticking.rate.numerator,
+        scan.ticking.rate.denominator,
+        scan.latch.segments[0],
+        scan.latch.segments[1],
     ]
 }
 
 fn scan_bytes(scan: Scan) -> [u8; 14]
     ensures { result ≡ scan_bytes scan }
 {
-    let latch = scan.latch;
-    let frame = scan.frame;
-    let inversion = scan.inversion;
     [
-        frame.duty,
-        flag_byte(frame.icon),
-        frame.initial_com,
-        flag_byte(frame.common_reverse),
-        frame.start_line,
+        scan.frame.duty,
+        u8::from(scan.frame.icon),
+        scan.frame.initial_com,
+        u8::from(scan.frame.common_reverse),
+        scan.frame.start_line,
         scan.pwm,
-        frame.frc_count,
+        scan.frame.frc_count,
         scan.row,
         scan.step,
         scan.frc,
-        inversion.lines,
-        inversion.count,
-        flag_byte(inversion.inverted),
-        flag_byte(latch.latched),
+        scan.inversion.lines,
+        scan.inversion.count,
+        u8::from(scan.inversion.inverted),
+        u8::from(scan.latch.latched),
     ]
 }
 
-pub(crate) fn number_of(refusal: Refusal) -> u64
-    ensures { result ≡ number refusal }
+// A scan goes out, and a refusal leaves what is there. Not by `put`, since the C interface lends two arrays.
+fn put_scan(answer: Result<Scan, Refusal>, words: &mut [u64; 13], bytes: &mut [u8; 14]) -> u64
+    ensures answers { (given : Scan) → result ≡ check_status (answered given answer).0 }
+    ensures words { (given : Scan) → words.new ≡ unless_refused (answered given answer).0 (scan_words (answered given answer).1) words.old }
+    ensures bytes { (given : Scan) → bytes.new ≡ unless_refused (answered given answer).0 (scan_bytes (answered given answer).1) bytes.old }
 {
-    match refusal {
-        Refusal::Memory => 2,
-        Refusal::Image => 8,
-        Refusal::Time => 1,
-        Refusal::Settings => 3,
-        Refusal::Scan => 4,
-        Refusal::Clock => 5,
-    }
-}
-
-fn checked(check: Check) -> u64
-    ensures { result ≡ check_status (refused check) }
-{
-    match check {
-        Check::Passed => 0,
-        Check::Refused(refusal) => number_of(refusal),
-    }
-}
-
-// A scan goes out, and a refusal leaves what is there.
-fn put_scan(answer: Changed, words: &mut [u64; 13], bytes: &mut [u8; 14]) -> u64
-    ensures answers { result ≡ check_status (answered answer).0 }
-    ensures words { words.new ≡ unless_refused (answered answer).0 (scan_words (answered answer).1) words.old }
-    ensures bytes { bytes.new ≡ unless_refused (answered answer).0 (scan_bytes (answered answer).1) bytes.old }
-{
-    let check = answer.check;
-    let scan = answer.scan;
-    match check {
-        Check::Passed => {
+    match answer {
+        Ok(scan) => {
             *words = scan_words(scan);
             *bytes = scan_bytes(scan);
             0
         }
-        Check::Refused(refusal) => number_of(refusal),
-    }
-}
-
-fn put_pieces(check: Check, pieces: u8, out: &mut u8)
-    ensures { out.new ≡ unless_refused (refused check) pieces out.old }
-{
-    if let Check::Passed = check {
-        *out = pieces;
+        Err(refusal) => refusal.number(),
     }
 }
 
@@ -222,19 +163,16 @@ pub fn nt7508_scan_count_to(
     ensures words { words.new ≡ unless_refused (counted_of words.old bytes.old settings.now seconds fraction).0 (scan_words (counted_of words.old bytes.old settings.now seconds fraction).1.0) words.old }
     ensures bytes { bytes.new ≡ unless_refused (counted_of words.old bytes.old settings.now seconds fraction).0 (scan_bytes (counted_of words.old bytes.old settings.now seconds fraction).1.0) bytes.old }
 {
-    let now = Time {
-        seconds: seconds,
-        fraction: fraction,
-    };
-    let counted = scan_of(words, bytes).count_to(settings_of(settings), now);
-    let check = counted.check;
-    let scan = counted.scan;
-    put_pieces(check, counted.pieces, pieces);
-    let answer = Changed {
-        check: check,
-        scan: scan,
-    };
-    put_scan(answer, words, bytes)
+    let now = Time { seconds, fraction };
+    match scan_of(words, bytes).count_to(settings_of(settings), now) {
+        Ok(counted) => {
+            *pieces = counted.pieces;
+            *words = scan_words(counted.scan);
+            *bytes = scan_bytes(counted.scan);
+            0
+        }
+        Err(refusal) => refusal.number(),
+    }
 }
 
 // The scan as a data byte for a page, or a command, has to find it at a moment, in place.
@@ -253,14 +191,11 @@ pub fn nt7508_scan_before_byte(
     ensures words { words.new ≡ unless_refused (before_of words.old bytes.old settings.now seconds fraction sent page ram.now icons.now).0 (scan_words (before_of words.old bytes.old settings.now seconds fraction sent page ram.now icons.now).1) words.old }
     ensures bytes { bytes.new ≡ unless_refused (before_of words.old bytes.old settings.now seconds fraction sent page ram.now icons.now).0 (scan_bytes (before_of words.old bytes.old settings.now seconds fraction sent page ram.now icons.now).1) bytes.old }
 {
-    let moment = Time {
-        seconds: seconds,
-        fraction: fraction,
-    };
+    let moment = Time { seconds, fraction };
     let before = scan_of(words, bytes);
     let present = settings_of(settings);
     put_scan(
-        before.before_byte(present, moment, page_of(sent, page), ram, icons),
+        before.before_byte(present, moment, sent.then_some(page), ram, icons),
         words,
         bytes,
     )
@@ -282,10 +217,7 @@ pub fn nt7508_scan_after_byte(
     ensures words { words.new ≡ unless_refused (after_of words.old bytes.old settings.now seconds fraction was_running running ram.now icons.now).0 (scan_words (after_of words.old bytes.old settings.now seconds fraction was_running running ram.now icons.now).1) words.old }
     ensures bytes { bytes.new ≡ unless_refused (after_of words.old bytes.old settings.now seconds fraction was_running running ram.now icons.now).0 (scan_bytes (after_of words.old bytes.old settings.now seconds fraction was_running running ram.now icons.now).1) bytes.old }
 {
-    let moment = Time {
-        seconds: seconds,
-        fraction: fraction,
-    };
+    let moment = Time { seconds, fraction };
     let before = scan_of(words, bytes);
     let present = settings_of(settings);
     let runs = Running::after(was_running, running);
@@ -308,10 +240,7 @@ pub fn nt7508_scan_fall(
     ensures words { words.new ≡ unless_refused (fallen_of words.old bytes.old settings.now seconds fraction).0 (scan_words (fallen_of words.old bytes.old settings.now seconds fraction).1) words.old }
     ensures bytes { bytes.new ≡ unless_refused (fallen_of words.old bytes.old settings.now seconds fraction).0 (scan_bytes (fallen_of words.old bytes.old settings.now seconds fraction).1) bytes.old }
 {
-    let now = Time {
-        seconds: seconds,
-        fraction: fraction,
-    };
+    let now = Time { seconds, fraction };
     let before = scan_of(words, bytes);
     put_scan(before.fall(settings_of(settings), now), words, bytes)
 }
@@ -327,5 +256,5 @@ pub fn nt7508_scan_render(
     ensures answers { result ≡ check_status (check_image (settings_of settings.now) ram.now icons.now (length image.old)) }
     ensures leaves { image.new ≡ rendered (settings_of settings.now) driven ram.now icons.now image.old }
 {
-    checked(scan::render(settings_of(settings), driven, ram, icons, image))
+    status(scan::render(settings_of(settings), driven, ram, icons, image))
 }

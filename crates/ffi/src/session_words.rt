@@ -1,40 +1,26 @@
 // The session program over words (crates/session). What a session ends with is two words: how many
 // bytes of the listing it wrote, and the line of its refusal, 0 where there is none.
 ghost use Rattle.std.specs.Prelude.{◌≡◌, [], ◌∷◌};
-ghost use Rattle.session.specs.Session.{number, refused_at};
+ghost use Rattle.session.specs.Session.{refused_at};
 ghost use Rattle.ffi.specs.SessionWords.{refusal_number, refusal_line, answered, session_on};
 
-use crate::controller_words::{NO_STATE, number_of};
+use crate::controller_words::NO_STATE;
 use crate::state_words::put_state;
-use session::{End, Why};
+use checks::Numbered;
+use session::Stop;
 
-// A text that is malformed, and a lent listing that is too short.
-const LINE: u64 = 9;
-
-const LISTING: u64 = 19;
-
-fn why_number(why: Why) -> u64
-    ensures { result ≡ number why }
-{
-    match why {
-        Why::Line => LINE,
-        Why::Listing => LISTING,
-        Why::Call(refusal) => number_of(refusal),
-    }
-}
-
-fn put_end(written: usize, end: End, ended: &mut [u64; 2]) -> u64
+fn put_end(written: usize, end: Result<(), Stop>, ended: &mut [u64; 2]) -> u64
     ensures answers { result ≡ refusal_number (refused_at end) }
     ensures leaves { ended.new ≡ written ∷ refusal_line (refused_at end) ∷ [] }
 {
     match end {
-        End::Whole => {
+        Ok(()) => {
             *ended = [written as u64, 0];
             0
         }
-        End::Refused { why, line } => {
-            *ended = [written as u64, line];
-            why_number(why)
+        Err(stop) => {
+            *ended = [written as u64, stop.line];
+            stop.why.number()
         }
     }
 }
@@ -51,12 +37,10 @@ pub fn nt7508_session(
 ) -> u64
     ensures { answered result state.new ram.new icons.new listing.new ended.new ≡ session_on text.now state.old ram.old icons.old listing.old ended.old }
 {
-    if state.len() != 75 {
+    let Some(block) = state.as_mut_array() else {
         return NO_STATE;
-    }
+    };
     let answer = session::run(text, ram, icons, listing);
-    let end = answer.end;
-    let after = answer.state;
-    put_state(after, state);
-    put_end(answer.written, end, ended)
+    put_state(answer.state, block);
+    put_end(answer.written, answer.end, ended)
 }

@@ -14,18 +14,22 @@
 //   65 page, 66 column_byte, 67 whether a column is saved, 68 which
 //   69 selected, 70 data, 71 shift, 72 bits, 73 whether a command awaits a parameter, 74 which
 // Yes is 1 and no is 0. What is not there has words of 0, and is not read.
-ghost use Rattle.std.specs.Prelude.{◌≡◌, ◌+◌, ◌≤◌, length};
-ghost use Rattle.ffi.specs.StateWords.{flags_fit, bytes_fit, wider_fit, holds_state, clock_in, scan_with, scan_in, display_in, analog_in, temperature_of, ready_in, power_with, power_in, saved_in, address_with, address_in, pending_in, serial_with, serial_in, state_of, scan_part_with, scan_part, palette_words, display_part_with, display_part, analog_part, temperature_word, ready_words, power_part_with, power_part, saved_words, address_part_with, address_part, pending_words, serial_part_with, serial_part, pasted, state_words};
+ghost use Rattle.std.specs.Prelude.{◌≡◌, true, false, MatchOption};
+ghost use Rattle.std.specs.Borrow.{sem, LendsIf, Array, u64};
+ghost use Rattle.ffi.specs.StateWords.{flags_fit, bytes_fit, wider_fit, holds_state, clock_in, scan_in, display_in, analog_in, temperature_of, ready_in, power_in, saved_in, address_in, pending_in, serial_in, state_of, scan_part, display_part, analog_part, temperature_word, power_part, address_part, serial_part, state_words};
 
 use crate::scan_words::{running_of, running_words};
-use clock::{Rate, Time};
-use controller::{Address, Nt7508, Pending, Power, Ready, SavedColumn, Serial};
-use scan::{Frame, Inversion, Latch, Scan, ScanClock, Ticking};
+use crate::words::{Words, optional_words};
+use clock::{Clock, Rate, Time};
+use controller::{Address, Nt7508, Power, Serial};
+use scan::{Frame, Inversion, Latch, Scan, Ticking};
+
+// The words of a state.
+pub(crate) type Block = [u64; 75];
 
 // Each word fits its field: a yes or no, a byte, or what is wider. Tests of one kind stand together, for the
-// compiler joins them.
-fn flags_fit(w: &[u64]) -> bool
-    requires { length w.now ≡ 75 }
+// compiler joins them: some 15 ns, where iterators over tables of places took 55 (tried).
+fn flags_fit(w: &Block) -> bool
     ensures { result ≡ flags_fit w.now }
 {
     (w[0] < 2)
@@ -50,8 +54,7 @@ fn flags_fit(w: &[u64]) -> bool
         & (w[73] < 2)
 }
 
-fn bytes_fit(w: &[u64]) -> bool
-    requires { length w.now ≡ 75 }
+fn bytes_fit(w: &Block) -> bool
     ensures { result ≡ bytes_fit w.now }
 {
     (w[14] < 256)
@@ -93,39 +96,50 @@ fn bytes_fit(w: &[u64]) -> bool
         & (w[74] < 256)
 }
 
-fn wider_fit(w: &[u64]) -> bool
-    requires { length w.now ≡ 75 }
+fn wider_fit(w: &Block) -> bool
     ensures { result ≡ wider_fit w.now }
 {
     (w[59] < 65536) & (w[60] < 4294967296) & (w[66] < 65536) & (w[68] < 65536)
 }
 
-// Whether a block holds a state: it has its length, and each word fits its field.
-pub(crate) fn holds(w: &[u64]) -> bool
+// Whether a block holds a state: each word fits its field.
+fn fits(w: &Block) -> bool
     ensures { result ≡ holds_state w.now }
 {
-    if w.len() != 75 {
-        return false;
-    }
     flags_fit(w) & bytes_fit(w) & wider_fit(w)
 }
 
-fn clock_in(w: &[u64]) -> ScanClock
-    requires { length w.now ≡ 75 }
+// Words as a block that holds a state: they have its length and fit their fields.
+pub(crate) fn held(words: &[u64]) -> Option<&Block>
+    ensures { MatchOption result (holds_state words.now ≡ false) (λ block. (holds_state words.now ≡ true) × (block.now ≡ words.now)) }
+{
+    let block = words.as_array()?;
+    fits(block).then_some(block)
+}
+
+pub(crate) fn held_mut(words: &mut [u64]) -> Option<&mut Block>
+    ensures is { MatchOption result (holds_state words.old ≡ false) (λ block. (holds_state words.old ≡ true) × (block.now ≡ words.old)) }
+    ensures* writes_back { sem 𝓛 (LendsIf (Array u64 0) (Array u64 0) words.entry result (λ after. after) words.old) }
+{
+    held(words)?;
+    words.as_mut_array()
+}
+
+#[tactic(auto, unfolding(crate::specs::StateWords::clock_in))]
+fn clock_in(w: &Block) -> Option<Clock>
     ensures { result ≡ clock_in w.now }
 {
     let words = [w[1], w[2], w[3], w[4], w[5], w[6], w[7], w[8]];
     running_of(w[0], &words)
 }
 
-// The scan of a block, with this clock.
-fn scan_with(clock: ScanClock, w: &[u64]) -> Scan
-    requires { length w.now ≡ 75 }
-    ensures { result ≡ scan_with clock w.now }
+#[tactic(auto, unfolding(crate::specs::StateWords::scan_in))]
+pub(crate) fn scan_in(w: &Block) -> Scan
+    ensures { result ≡ scan_in w.now }
 {
     Scan {
         ticking: Ticking {
-            clock: clock,
+            clock: clock_in(w),
             rate: Rate {
                 numerator: w[9],
                 denominator: w[10],
@@ -155,16 +169,7 @@ fn scan_with(clock: ScanClock, w: &[u64]) -> Scan
     }
 }
 
-pub(crate) fn scan_in(w: &[u64]) -> Scan
-    requires { length w.now ≡ 75 }
-    ensures { result ≡ scan_in w.now }
-{
-    let clock = clock_in(w);
-    scan_with(clock, w)
-}
-
-pub(crate) fn display_in(w: &[u64]) -> scan::Settings
-    requires { length w.now ≡ 75 }
+pub(crate) fn display_in(w: &Block) -> scan::Settings
     ensures { result ≡ display_in w.now }
 {
     scan::Settings {
@@ -193,8 +198,7 @@ pub(crate) fn display_in(w: &[u64]) -> scan::Settings
     }
 }
 
-pub(crate) fn analog_in(w: &[u64]) -> voltage::Settings
-    requires { length w.now ≡ 75 }
+pub(crate) fn analog_in(w: &Block) -> voltage::Settings
     ensures { result ≡ analog_in w.now }
 {
     voltage::Settings {
@@ -216,23 +220,18 @@ fn temperature_of(word: u64) -> i32
     ((word % 4294967296) as i64 - 2147483648) as i32
 }
 
-fn ready_in(w: &[u64]) -> Ready
-    requires { length w.now ≡ 75 }
+#[tactic(auto, unfolding(crate::specs::StateWords::ready_in))]
+fn ready_in(w: &Block) -> Option<Time>
     ensures { result ≡ ready_in w.now }
 {
-    if w[62] == 0 {
-        return Ready::Now;
-    }
-    Ready::At(Time {
+    (w[62] != 0).then_some(Time {
         seconds: w[63],
         fraction: w[64],
     })
 }
 
-// The power of a block, with this temperature and wait.
-fn power_with(temperature: i32, ready: Ready, w: &[u64]) -> Power
-    requires { length w.now ≡ 75 }
-    ensures { result ≡ power_with temperature ready w.now }
+pub(crate) fn power_in(w: &Block) -> Power
+    ensures { result ≡ power_in w.now }
 {
     Power {
         display_on: w[55] != 0,
@@ -240,114 +239,69 @@ fn power_with(temperature: i32, ready: Ready, w: &[u64]) -> Power
         oscillator_enabled: w[57] != 0,
         supplied: w[58] != 0,
         supply_millivolts: (w[59] % 65536) as u16,
-        temperature_millicelsius: temperature,
+        temperature_millicelsius: temperature_of(w[60]),
         cold: w[61] != 0,
-        ready: ready,
+        ready: ready_in(w),
     }
 }
 
-pub(crate) fn power_in(w: &[u64]) -> Power
-    requires { length w.now ≡ 75 }
-    ensures { result ≡ power_in w.now }
-{
-    let temperature = temperature_of(w[60]);
-    let ready = ready_in(w);
-    power_with(temperature, ready, w)
-}
-
-fn saved_in(w: &[u64]) -> SavedColumn
-    requires { length w.now ≡ 75 }
+#[tactic(auto, unfolding(crate::specs::StateWords::saved_in))]
+fn saved_in(w: &Block) -> Option<u16>
     ensures { result ≡ saved_in w.now }
 {
-    if w[67] == 0 {
-        return SavedColumn::None;
-    }
-    SavedColumn::Column((w[68] % 65536) as u16)
+    (w[67] != 0).then_some((w[68] % 65536) as u16)
 }
 
-// The address of a block, with this column put aside.
-fn address_with(saved: SavedColumn, w: &[u64]) -> Address
-    requires { length w.now ≡ 75 }
-    ensures { result ≡ address_with saved w.now }
+#[tactic(auto, unfolding(crate::specs::StateWords::address_in))]
+pub(crate) fn address_in(w: &Block) -> Address
+    ensures { result ≡ address_in w.now }
 {
     Address {
         page: (w[65] % 256) as u8,
         column_byte: (w[66] % 65536) as u16,
-        saved_column: saved,
+        saved_column: saved_in(w),
     }
 }
 
-pub(crate) fn address_in(w: &[u64]) -> Address
-    requires { length w.now ≡ 75 }
-    ensures { result ≡ address_in w.now }
-{
-    let saved = saved_in(w);
-    address_with(saved, w)
-}
-
-fn pending_in(w: &[u64]) -> Pending
-    requires { length w.now ≡ 75 }
+#[tactic(auto, unfolding(crate::specs::StateWords::pending_in))]
+fn pending_in(w: &Block) -> Option<u8>
     ensures { result ≡ pending_in w.now }
 {
-    if w[73] == 0 {
-        return Pending::None;
-    }
-    Pending::Command((w[74] % 256) as u8)
+    (w[73] != 0).then_some((w[74] % 256) as u8)
 }
 
-// The serial line of a block, with this awaited command.
-fn serial_with(pending: Pending, w: &[u64]) -> Serial
-    requires { length w.now ≡ 75 }
-    ensures { result ≡ serial_with pending w.now }
+#[tactic(auto, unfolding(crate::specs::StateWords::serial_in))]
+pub(crate) fn serial_in(w: &Block) -> Serial
+    ensures { result ≡ serial_in w.now }
 {
     Serial {
         selected: w[69] != 0,
         data: w[70] != 0,
         shift: (w[71] % 256) as u8,
         bits: (w[72] % 256) as u8,
-        pending: pending,
+        pending: pending_in(w),
     }
-}
-
-pub(crate) fn serial_in(w: &[u64]) -> Serial
-    requires { length w.now ≡ 75 }
-    ensures { result ≡ serial_in w.now }
-{
-    let pending = pending_in(w);
-    serial_with(pending, w)
 }
 
 // The state of a block.
-pub(crate) fn state_of(w: &[u64]) -> Nt7508
-    requires { length w.now ≡ 75 }
+#[tactic(auto, unfolding(crate::specs::StateWords::state_of))]
+pub(crate) fn state_of(w: &Block) -> Nt7508
     ensures { result ≡ state_of w.now }
 {
-    let scan = scan_in(w);
-    let display = display_in(w);
-    let analog = analog_in(w);
-    let power = power_in(w);
-    let address = address_in(w);
-    let serial = serial_in(w);
     Nt7508 {
-        scan: scan,
-        display: display,
-        analog: analog,
-        power: power,
-        address: address,
-        serial: serial,
+        scan: scan_in(w),
+        display: display_in(w),
+        analog: analog_in(w),
+        power: power_in(w),
+        address: address_in(w),
+        serial: serial_in(w),
     }
 }
 
-// The words of a scan whose clock has these words.
-fn scan_part_with(c: [u64; 9], scan: Scan) -> [u64; 27]
-    ensures { result ≡ scan_part_with c scan }
+fn scan_part(scan: Scan) -> [u64; 27]
+    ensures { result ≡ scan_part scan }
 {
-    let ticking = scan.ticking;
-    let rate = ticking.rate;
-    let latch = scan.latch;
-    let segments = latch.segments;
-    let frame = scan.frame;
-    let inversion = scan.inversion;
+    let c = running_words(scan.ticking.clock);
     [
         c[0],
         c[1],
@@ -358,56 +312,32 @@ fn scan_part_with(c: [u64; 9], scan: Scan) -> [u64; 27]
         c[6],
         c[7],
         c[8],
-        rate.numerator,
-        rate.denominator,
-        segments[0],
-        segments[1],
-        latch.latched as u64,
-        frame.duty as u64,
-        frame.icon as u64,
-        frame.initial_com as u64,
-        frame.common_reverse as u64,
-        frame.start_line as u64,
-        frame.frc_count as u64,
+        scan.ticking.rate.numerator,
+        scan.ticking.rate.denominator,
+        scan.latch.segments[0],
+        scan.latch.segments[1],
+        scan.latch.latched as u64,
+        scan.frame.duty as u64,
+        scan.frame.icon as u64,
+        scan.frame.initial_com as u64,
+        scan.frame.common_reverse as u64,
+        scan.frame.start_line as u64,
+        scan.frame.frc_count as u64,
         scan.pwm as u64,
         scan.row as u64,
         scan.step as u64,
         scan.frc as u64,
-        inversion.lines as u64,
-        inversion.count as u64,
-        inversion.inverted as u64,
+        scan.inversion.lines as u64,
+        scan.inversion.count as u64,
+        scan.inversion.inverted as u64,
     ]
 }
 
-fn scan_part(scan: Scan) -> [u64; 27]
-    ensures { result ≡ scan_part scan }
+#[tactic(auto, unfolding(crate::specs::StateWords::display_part))]
+fn display_part(display: scan::Settings) -> [u64; 20]
+    ensures { result ≡ display_part display }
 {
-    let ticking = scan.ticking;
-    let clock = ticking.clock;
-    scan_part_with(running_words(clock), scan)
-}
-
-fn palette_words(p: [u8; 8]) -> [u64; 8]
-    ensures { result ≡ palette_words p }
-{
-    [
-        p[0] as u64,
-        p[1] as u64,
-        p[2] as u64,
-        p[3] as u64,
-        p[4] as u64,
-        p[5] as u64,
-        p[6] as u64,
-        p[7] as u64,
-    ]
-}
-
-// The words of display settings whose palette has these words.
-fn display_part_with(p: [u64; 8], display: scan::Settings) -> [u64; 20]
-    ensures { result ≡ display_part_with p display }
-{
-    let control = display.oscillator_control as u64;
-    let frequency = display.oscillator_frequency as u64;
+    let p = display.palette;
     [
         display.start_line as u64,
         display.icon_enabled as u64,
@@ -419,24 +349,17 @@ fn display_part_with(p: [u64; 8], display: scan::Settings) -> [u64; 20]
         display.duty as u64,
         display.inversion_lines as u64,
         display.gray_mode as u64,
-        p[0],
-        p[1],
-        p[2],
-        p[3],
-        p[4],
-        p[5],
-        p[6],
-        p[7],
-        control,
-        frequency,
+        p[0] as u64,
+        p[1] as u64,
+        p[2] as u64,
+        p[3] as u64,
+        p[4] as u64,
+        p[5] as u64,
+        p[6] as u64,
+        p[7] as u64,
+        display.oscillator_control as u64,
+        display.oscillator_frequency as u64,
     ]
-}
-
-fn display_part(display: scan::Settings) -> [u64; 20]
-    ensures { result ≡ display_part display }
-{
-    let palette = display.palette;
-    display_part_with(palette_words(palette), display)
 }
 
 fn analog_part(analog: voltage::Settings) -> [u64; 8]
@@ -460,167 +383,55 @@ fn temperature_word(temperature: i32) -> u64
     ((temperature as i64) + 2147483648) as u64
 }
 
-fn ready_words(ready: Ready) -> [u64; 3]
-    ensures { result ≡ ready_words ready }
+fn power_part(power: Power) -> [u64; 10]
+    ensures { result ≡ power_part power }
 {
-    match ready {
-        Ready::Now => [0; 3],
-        Ready::At(end) => [1, end.seconds, end.fraction],
-    }
-}
-
-// The words of a power whose temperature and wait have these words.
-fn power_part_with(temperature: u64, ready: [u64; 3], power: Power) -> [u64; 10]
-    ensures { result ≡ power_part_with temperature ready power }
-{
+    let r = power.ready.words();
     [
         power.display_on as u64,
         power.power_save as u64,
         power.oscillator_enabled as u64,
         power.supplied as u64,
         power.supply_millivolts as u64,
-        temperature,
+        temperature_word(power.temperature_millicelsius),
         power.cold as u64,
-        ready[0],
-        ready[1],
-        ready[2],
+        r[0],
+        r[1],
+        r[2],
     ]
 }
 
-fn power_part(power: Power) -> [u64; 10]
-    ensures { result ≡ power_part power }
-{
-    let ready = power.ready;
-    let temperature = temperature_word(power.temperature_millicelsius);
-    power_part_with(temperature, ready_words(ready), power)
-}
-
-fn saved_words(saved: SavedColumn) -> [u64; 2]
-    ensures { result ≡ saved_words saved }
-{
-    match saved {
-        SavedColumn::None => [0; 2],
-        SavedColumn::Column(column) => [1, column as u64],
-    }
-}
-
-fn address_part_with(saved: [u64; 2], address: Address) -> [u64; 4]
-    ensures { result ≡ address_part_with saved address }
-{
-    [
-        address.page as u64,
-        address.column_byte as u64,
-        saved[0],
-        saved[1],
-    ]
-}
-
+#[tactic(auto, unfolding(crate::specs::StateWords::address_part))]
 fn address_part(address: Address) -> [u64; 4]
     ensures { result ≡ address_part address }
 {
-    let saved = address.saved_column;
-    address_part_with(saved_words(saved), address)
+    let s = optional_words(address.saved_column.map(u64::from));
+    [address.page as u64, address.column_byte as u64, s[0], s[1]]
 }
 
-fn pending_words(pending: Pending) -> [u64; 2]
-    ensures { result ≡ pending_words pending }
+#[tactic(auto, unfolding(crate::specs::StateWords::serial_part))]
+fn serial_part(serial: Serial) -> [u64; 6]
+    ensures { result ≡ serial_part serial }
 {
-    match pending {
-        Pending::None => [0; 2],
-        Pending::Command(byte) => [1, byte as u64],
-    }
-}
-
-fn serial_part_with(pending: [u64; 2], serial: Serial) -> [u64; 6]
-    ensures { result ≡ serial_part_with pending serial }
-{
+    let p = optional_words(serial.pending.map(u64::from));
     [
         serial.selected as u64,
         serial.data as u64,
         serial.shift as u64,
         serial.bits as u64,
-        pending[0],
-        pending[1],
+        p[0],
+        p[1],
     ]
 }
 
-fn serial_part(serial: Serial) -> [u64; 6]
-    ensures { result ≡ serial_part serial }
-{
-    let pending = serial.pending;
-    serial_part_with(pending_words(pending), serial)
-}
-
-// Words into a block, from a place on.
-fn put(words: &[u64], at: usize, out: &mut [u64])
-    requires { at + length words.now ≤ length out.old }
-    ensures { out.new ≡ pasted out.old at words.now }
-{
-    let mut i = 0;
-    while i < words.len() {
-        out[at + i] = words[i];
-        i += 1;
-    }
-}
-
-// The groups of a state into a block, each at its place.
-fn put_scan(scan: Scan, out: &mut [u64])
-    requires { length out.old ≡ 75 }
-    ensures { out.new ≡ pasted out.old 0 (scan_part scan) }
-{
-    let words = scan_part(scan);
-    put(&words, 0, out);
-}
-
-fn put_display(display: scan::Settings, out: &mut [u64])
-    requires { length out.old ≡ 75 }
-    ensures { out.new ≡ pasted out.old 27 (display_part display) }
-{
-    let words = display_part(display);
-    put(&words, 27, out);
-}
-
-fn put_analog(analog: voltage::Settings, out: &mut [u64])
-    requires { length out.old ≡ 75 }
-    ensures { out.new ≡ pasted out.old 47 (analog_part analog) }
-{
-    let words = analog_part(analog);
-    put(&words, 47, out);
-}
-
-fn put_power(power: Power, out: &mut [u64])
-    requires { length out.old ≡ 75 }
-    ensures { out.new ≡ pasted out.old 55 (power_part power) }
-{
-    let words = power_part(power);
-    put(&words, 55, out);
-}
-
-fn put_address(address: Address, out: &mut [u64])
-    requires { length out.old ≡ 75 }
-    ensures { out.new ≡ pasted out.old 65 (address_part address) }
-{
-    let words = address_part(address);
-    put(&words, 65, out);
-}
-
-fn put_serial(serial: Serial, out: &mut [u64])
-    requires { length out.old ≡ 75 }
-    ensures { out.new ≡ pasted out.old 69 (serial_part serial) }
-{
-    let words = serial_part(serial);
-    put(&words, 69, out);
-}
-
 // A state into a block.
-pub(crate) fn put_state(state: Nt7508, out: &mut [u64])
-    requires { length out.old ≡ 75 }
+pub(crate) fn put_state(state: Nt7508, out: &mut Block)
     ensures { out.new ≡ state_words state }
 {
-    put_scan(state.scan, out);
-    put_display(state.display, out);
-    put_analog(state.analog, out);
-    put_power(state.power, out);
-    put_address(state.address, out);
-    put_serial(state.serial, out);
+    out[..27].copy_from_slice(&scan_part(state.scan));
+    out[27..47].copy_from_slice(&display_part(state.display));
+    out[47..55].copy_from_slice(&analog_part(state.analog));
+    out[55..65].copy_from_slice(&power_part(state.power));
+    out[65..69].copy_from_slice(&address_part(state.address));
+    out[69..].copy_from_slice(&serial_part(state.serial));
 }

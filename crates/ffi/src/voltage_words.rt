@@ -2,13 +2,14 @@
 // which the original declares them: contrast, regulator, power control, booster, bias, temperature
 // slope, contrast trim, OTP control.
 ghost use Rattle.std.specs.Prelude.{◌≡◌};
-ghost use Rattle.voltage.specs.Check.{number, valid_settings};
-ghost use Rattle.voltage.specs.Answers.{answered, answer_of};
+ghost use Rattle.voltage.specs.Check.{valid_settings};
+ghost use Rattle.voltage.specs.Answers.{answer_of};
 ghost use Rattle.ffi.specs.Words.{status, stored};
-ghost use Rattle.ffi.specs.VoltageWords.{settings_of, supply_of, level_word, voltage_words, found_number, found_words, FinderAnswers};
+ghost use Rattle.ffi.specs.VoltageWords.{settings_of, supply_of, level_word, voltage_words, pair_words, FinderAnswers};
 
-use voltage::finder::Found;
-use voltage::{Answer, LcdVoltages, Level, Refusal, Settings, Supply};
+use crate::words::{Words, put};
+use voltage::finder::{Pair, find_setting};
+use voltage::{LcdVoltages, Settings, Supply};
 
 pub(crate) fn settings_of(bytes: &[u8; 8]) -> Settings
     ensures { result ≡ settings_of bytes.now }
@@ -25,75 +26,42 @@ pub(crate) fn settings_of(bytes: &[u8; 8]) -> Settings
     }
 }
 
-// An absent level has a number that no present one has.
-fn word_of(level: Level) -> u64
+// A level, or that of an electrode: an absent one has a number that no present one has.
+pub(crate) fn level_word(level: Option<u32>) -> u64
     ensures { result ≡ level_word level }
 {
-    match level {
-        Level::Absent => 0x1_0000_0000,
-        Level::Microvolts(v) => v as u64,
+    level.map_or(0x1_0000_0000, u64::from)
+}
+
+impl Words for LcdVoltages {
+    type Words = [u64; 7];
+
+    ghost words = { voltage_words };
+
+    fn words(self) -> [u64; 7] {
+        [
+            u64::from(self.target),
+            level_word(self.pump),
+            level_word(self.v0),
+            level_word(self.v1),
+            level_word(self.v2),
+            level_word(self.v3),
+            level_word(self.v4),
+        ]
     }
 }
 
-pub(crate) fn words_of(voltages: LcdVoltages) -> [u64; 7]
-    ensures { result ≡ voltage_words voltages }
-{
-    let pump = voltages.pump;
-    let v0 = voltages.v0;
-    let v1 = voltages.v1;
-    let v2 = voltages.v2;
-    let v3 = voltages.v3;
-    let v4 = voltages.v4;
-    [
-        voltages.target as u64,
-        word_of(pump),
-        word_of(v0),
-        word_of(v1),
-        word_of(v2),
-        word_of(v3),
-        word_of(v4),
-    ]
-}
+// What the finder found: whether there is a pair, its regulator and contrast.
+impl Words for Option<Pair> {
+    type Words = [u64; 3];
 
-fn number_of(refusal: Refusal) -> u64
-    ensures { result ≡ number refusal }
-{
-    match refusal {
-        Refusal::Settings => 3,
-    }
-}
+    ghost words = { pair_words };
 
-// Voltages go out, and a refusal leaves what is there.
-fn put(answer: Answer, out: &mut [u64; 7]) -> u64
-    ensures answers { result ≡ status (answered answer) }
-    ensures leaves { out.new ≡ stored voltage_words (answered answer) out.old }
-{
-    match answer {
-        Answer::Voltages(voltages) => {
-            *out = words_of(voltages);
-            0
+    fn words(self) -> [u64; 3] {
+        match self {
+            None => [0; 3],
+            Some(pair) => [1, u64::from(pair.regulator), u64::from(pair.contrast)],
         }
-        Answer::Refused(refusal) => number_of(refusal),
-    }
-}
-
-fn put_found(found: Found, out: &mut [u64; 3]) -> u64
-    ensures answers { result ≡ found_number found }
-    ensures leaves { out.new ≡ found_words found out.old }
-{
-    match found {
-        Found::Setting {
-            regulator,
-            contrast,
-        } => {
-            *out = [1, regulator as u64, contrast as u64];
-            0
-        }
-        Found::None => {
-            *out = [0, 0, 0];
-            0
-        }
-        Found::Refused(refusal) => number_of(refusal),
     }
 }
 
@@ -119,8 +87,8 @@ pub fn nt7508_voltages(
     let supply = Supply {
         supply_millivolts: millivolts,
         temperature_millicelsius: temperature,
-        power_save: power_save,
-        waiting: waiting,
+        power_save,
+        waiting,
     };
     put(voltage::voltages(settings_of(settings), supply), out)
 }
@@ -135,6 +103,8 @@ pub fn nt7508_find_setting(
 ) -> u64
     ensures { FinderAnswers (settings_of settings.now) temperature low high out.old result out.new }
 {
-    let found = voltage::finder::find_setting(settings_of(settings), temperature, low, high);
-    put_found(found, out)
+    put(
+        find_setting(settings_of(settings), temperature, low, high),
+        out,
+    )
 }

@@ -3,7 +3,8 @@ ghost use Rattle.std.specs.Prelude.{◌≡◌};
 ghost use Rattle.scan.specs.Drive.{common_microvolts, segment_microvolts};
 ghost use Rattle.checks.specs.Checks.{unless_refused};
 ghost use Rattle.ffi.specs.Words.{check_status};
-ghost use Rattle.ffi.specs.DriveWords.{conditions_of, driven_of, drive_words, drive_of, electrode_word};
+ghost use Rattle.ffi.specs.DriveWords.{conditions_of, driven_of, drive_words, drive_of};
+ghost use Rattle.ffi.specs.VoltageWords.{level_word};
 
 #[unsafe(no_mangle)]
 pub extern "C" fn nt7508_scan_drive(
@@ -50,14 +51,14 @@ pub extern "C" fn nt7508_scan_drive(
 
 #[unsafe(no_mangle)]
 pub extern "C" fn nt7508_scan_common_microvolts(drive: &[u64; 12], common: u8) -> u64
-    ensures { result ≡ electrode_word (common_microvolts (drive_of drive.now) common) }
+    ensures { result ≡ level_word (common_microvolts (drive_of drive.now) common) }
 {
     ffi::drive_words::nt7508_scan_common_microvolts(drive, common)
 }
 
 #[unsafe(no_mangle)]
 pub extern "C" fn nt7508_scan_segment_microvolts(drive: &[u64; 12], segment: u8) -> u64
-    ensures { result ≡ electrode_word (segment_microvolts (drive_of drive.now) segment) }
+    ensures { result ≡ level_word (segment_microvolts (drive_of drive.now) segment) }
 {
     ffi::drive_words::nt7508_scan_segment_microvolts(drive, segment)
 }

@@ -2,9 +2,10 @@
 ghost use Rattle.std.specs.Prelude.{◌≡◌};
 ghost use Rattle.checks.specs.Checks.{unless_refused};
 ghost use Rattle.ffi.specs.Words.{check_status, status, stored};
+ghost use Rattle.ffi.specs.ClockWords.{deadline_words};
 ghost use Rattle.ffi.specs.DriveWords.{drive_words};
 ghost use Rattle.ffi.specs.VoltageWords.{voltage_words};
-ghost use Rattle.ffi.specs.ControllerWords.{driven_on, rendered_on, voltages_on, edges_on, deadline_on, deadline_words, FoundOn};
+ghost use Rattle.ffi.specs.ControllerWords.{driven_on, rendered_on, voltages_on, edges_on, deadline_on, FoundOn};
 
 #[unsafe(no_mangle)]
 pub extern "C" fn nt7508_controller_drive(

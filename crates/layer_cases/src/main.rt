@@ -11,9 +11,8 @@ mod scan_cases;
 mod voltage_cases;
 mod words;
 
-use replay::{Case, Tally};
-use std::rt::Files;
-use std::{fs, io};
+use replay::{Replayed, replay_file};
+use std::io;
 
 // Whether ours answers as a case says.
 fn agrees(kind: u64, w: &[u64; 108]) -> bool {
@@ -28,49 +27,20 @@ fn agrees(kind: u64, w: &[u64; 108]) -> bool {
     }
 }
 
-fn name_line(rt: &impl Print, what: &str, line: usize) -> io::Result<()> {
-    let number = line.wrapping_add(1);
-    println!(rt; "{what}: line {number}")
-}
-
-// Replays the next line, if there is one.
-fn replay_line(rt: &impl Print, text: &[u8], tally: Tally, line: usize) -> io::Result<Tally> {
-    if text.len() <= tally.at {
-        return Ok(tally);
-    }
+// Replays the line at a place, if it holds a case.
+fn line_at(list: &[u8], at: usize) -> Option<Replayed> {
     let mut w = [0u64; 108];
-    let case = replay::case_at(text, tally.at, &mut w);
-    let Case::Of { kind, next } = case else {
-        name_line(rt, "no case", line)?;
-        return Ok(tally.ended(text.len()));
-    };
-    let agrees = agrees(kind, &w);
-    if !agrees {
-        name_line(rt, "differs", line)?;
-    }
-    Ok(tally.counted(next, agrees))
-}
-
-// Replays a list. A line has at least a byte, so there are no more lines than bytes.
-fn replay_list(rt: &impl Print, text: &[u8]) -> io::Result<Tally> {
-    let mut tally = Tally::new();
-    for line in 0..text.len() {
-        tally = replay_line(rt, text, tally, line)?;
-    }
-    Ok(tally)
-}
-
-// Replays the list of a file.
-fn replay_file(rt: &(impl Files + Print + Alloc), path: &str) -> io::Result<()> {
-    let text = fs::read(rt, path)?;
-    let tally = replay_list(rt, &text)?;
-    println!(rt; "{} cases, {} differ", tally.cases, tally.differ)
+    let case = replay::case_at(list, at, &mut w)?;
+    Some(Replayed {
+        next: case.next,
+        agrees: agrees(case.kind, &w),
+    })
 }
 
 fn main(rt: HostRuntime) -> io::Result<()> {
     clock_cases::figures(&rt)?;
-    replay_file(&rt, "clock")?;
+    replay_file(&rt, "clock", "line", line_at)?;
     voltage_cases::figures(&rt)?;
-    replay_file(&rt, "voltage")?;
-    replay_file(&rt, "scan")
+    replay_file(&rt, "voltage", "line", line_at)?;
+    replay_file(&rt, "scan", "line", line_at)
 }

@@ -15,18 +15,16 @@
 //     target pump v0 v1 v2 v3 v4 (2^32 none); the sum of its electrodes, common n and segment n for n
 //     from 0 to 255; the sum of the image. A sum starts at 0, and each number x makes it
 //     (31 sum + x) mod 2^32.
-use crate::clock_cases::same_clock;
-use crate::voltage_cases::same_voltages;
-use crate::words::narrow;
+use crate::voltage_cases;
+use crate::words::{bytes_of, level_word};
 use clock::{Clock, Rate, Time, Wide};
-use replay::{added, fill, widened};
+use replay::{added, fill, sum_of};
 use scan::{
-    Check, Common, Conditions, Electrode, Frame, Inversion, Latch, LcdDrive, Scan, ScanClock,
-    Settings, Ticking,
+    Conditions, Counted, Driven, Frame, Inversion, Latch, LcdDrive, Scan, Settings, Ticking,
 };
 use voltage::Supply;
 
-fn settings_of(b: &[u8; 20]) -> Settings {
+fn settings_of(b: [u8; 20]) -> Settings {
     Settings {
         start_line: b[0],
         icon_enabled: b[1] != 0,
@@ -44,11 +42,8 @@ fn settings_of(b: &[u8; 20]) -> Settings {
     }
 }
 
-fn clock_of(w: &[u64; 108]) -> ScanClock {
-    if w[28] == 0 {
-        return ScanClock::Stopped;
-    }
-    ScanClock::Running(Clock {
+fn clock_of(w: &[u64; 108]) -> Option<Clock> {
+    (w[28] != 0).then_some(Clock {
         at: Time {
             seconds: w[29],
             fraction: w[30],
@@ -64,11 +59,10 @@ fn clock_of(w: &[u64; 108]) -> ScanClock {
     })
 }
 
-fn scan_of(w: &[u64; 108], b: &[u8; 14]) -> Scan {
-    let clock = clock_of(w);
+fn scan_of(w: &[u64; 108], b: [u8; 14]) -> Scan {
     Scan {
         ticking: Ticking {
-            clock: clock,
+            clock: clock_of(w),
             rate: Rate {
                 numerator: w[37],
                 denominator: w[38],
@@ -105,15 +99,6 @@ fn moment_of(w: &[u64; 108]) -> Time {
     }
 }
 
-// A yes is 1 in an answer, and a no 0.
-fn is_flag(yes: bool, word: u64) -> bool {
-    if yes { word == 1 } else { word == 0 }
-}
-
-fn is_byte(x: u8, word: u64) -> bool {
-    widened(x) == word
-}
-
 // A clock that is stopped has 0 for each number.
 const NONE: Clock = Clock {
     at: Time::ZERO,
@@ -124,181 +109,127 @@ const NONE: Clock = Clock {
     ordinal: 0,
 };
 
-// Whether a line has this clock and this rate as an answer.
-fn same_ticking(ticking: Ticking, w: &[u64; 108]) -> bool {
-    let clock = ticking.clock;
-    let rate = ticking.rate;
-    let answer = [w[67], w[68], w[69], w[70], w[71], w[72], w[73], w[74]];
-    let same = match clock {
-        ScanClock::Running(running) => (w[66] == 1) & same_clock(running, &answer),
-        ScanClock::Stopped => (w[66] == 0) & same_clock(NONE, &answer),
-    };
-    same & (rate.numerator == w[75]) & (rate.denominator == w[76])
-}
-
-fn same_frame(frame: Frame, w: &[u64; 108]) -> bool {
-    is_byte(frame.duty, w[79])
-        & is_flag(frame.icon, w[80])
-        & is_byte(frame.initial_com, w[81])
-        & is_flag(frame.common_reverse, w[82])
-        & is_byte(frame.start_line, w[83])
-        & is_byte(frame.frc_count, w[85])
-}
-
-fn same_inversion(inversion: Inversion, w: &[u64; 108]) -> bool {
-    is_byte(inversion.lines, w[89])
-        & is_byte(inversion.count, w[90])
-        & is_flag(inversion.inverted, w[91])
-}
-
-fn same_latch(latch: Latch, w: &[u64; 108]) -> bool {
-    let segments = latch.segments;
-    (segments[0] == w[77]) & (segments[1] == w[78]) & is_flag(latch.latched, w[92])
-}
-
-// Whether a line has this scan as an answer.
-fn same_scan(scan: Scan, w: &[u64; 108]) -> bool {
-    let ticking = scan.ticking;
-    let latch = scan.latch;
-    let frame = scan.frame;
-    let inversion = scan.inversion;
-    same_ticking(ticking, w)
-        & same_latch(latch, w)
-        & same_frame(frame, w)
-        & is_byte(scan.pwm, w[84])
-        & is_byte(scan.row, w[86])
-        & is_byte(scan.step, w[87])
-        & is_byte(scan.frc, w[88])
-        & same_inversion(inversion, w)
+// A scan as a line has it, its words and then its bytes.
+fn words_of(scan: Scan) -> [u64; 27] {
+    let clock = scan.ticking.clock.unwrap_or(NONE);
+    [
+        u64::from(scan.ticking.clock.is_some()),
+        clock.at.seconds,
+        clock.at.fraction,
+        clock.whole.high,
+        clock.whole.low,
+        clock.remainder,
+        clock.denominator,
+        clock.fraction,
+        clock.ordinal,
+        scan.ticking.rate.numerator,
+        scan.ticking.rate.denominator,
+        scan.latch.segments[0],
+        scan.latch.segments[1],
+        u64::from(scan.frame.duty),
+        u64::from(scan.frame.icon),
+        u64::from(scan.frame.initial_com),
+        u64::from(scan.frame.common_reverse),
+        u64::from(scan.frame.start_line),
+        u64::from(scan.pwm),
+        u64::from(scan.frame.frc_count),
+        u64::from(scan.row),
+        u64::from(scan.step),
+        u64::from(scan.frc),
+        u64::from(scan.inversion.lines),
+        u64::from(scan.inversion.count),
+        u64::from(scan.inversion.inverted),
+        u64::from(scan.latch.latched),
+    ]
 }
 
 fn count_agrees(scan: Scan, settings: Settings, w: &[u64; 108]) -> bool {
-    let counted = scan.count_to(settings, moment_of(w));
-    let check = counted.check;
-    let after = counted.scan;
-    let Check::Passed = check else {
+    let Ok(Counted { scan, pieces }) = scan.count_to(settings, moment_of(w)) else {
         return false;
     };
-    same_scan(after, w) & is_byte(counted.pieces, w[93])
-}
-
-fn is_common(common: Common, word: u64) -> bool {
-    match common {
-        Common::Selected(number) => is_byte(number, word),
-        Common::None => word == 129,
-    }
+    (words_of(scan)[..] == w[66..93]) & (u64::from(pieces) == w[93])
 }
 
 // Whether a line has this drive as an answer.
 fn same_drive(drive: LcdDrive, w: &[u64; 108]) -> bool {
-    let common = drive.common;
-    let segments = drive.segments;
-    let voltages = drive.voltages;
-    let answer = [w[99], w[100], w[101], w[102], w[103], w[104], w[105]];
-    is_common(common, w[94])
-        & (segments[0] == w[95])
-        & (segments[1] == w[96])
-        & is_flag(drive.inverted, w[97])
-        & is_flag(drive.grounded, w[98])
-        & same_voltages(voltages, &answer)
-}
-
-// An electrode that has no level, or that there is not, counts as 2^32.
-fn electrode_word(electrode: Electrode) -> u64 {
-    match electrode {
-        Electrode::Microvolts(v) => v as u64,
-        Electrode::None => 4294967296,
-    }
+    let electrodes = [
+        drive.common.map_or(129, u64::from),
+        drive.segments[0],
+        drive.segments[1],
+        u64::from(drive.inverted),
+        u64::from(drive.grounded),
+    ];
+    (electrodes[..] == w[94..99]) & (voltage_cases::words_of(drive.voltages)[..] == w[99..106])
 }
 
 // The sum of commons and segments 0 to 255; beyond the last of either there is none.
 fn electrodes(drive: LcdDrive) -> u64 {
-    let mut sum = 0;
-    for n in 0u8..=255 {
-        sum = added(sum, electrode_word(drive.common_microvolts(n)));
-        sum = added(sum, electrode_word(drive.segment_microvolts(n)));
-    }
-    sum
+    (0u8..=255).fold(0, |sum, n| {
+        let sum = added(sum, level_word(drive.common_microvolts(n)));
+        added(sum, level_word(drive.segment_microvolts(n)))
+    })
 }
 
 // The frame of a line, by its counted scan: duty x PWM, and 0 where no common is driven.
 fn frame_of(w: &[u64; 108]) -> u64 {
-    if w[94] == 129 {
+    let pwm = w[84];
+    if (w[94] == 129) | ![9, 12, 15].contains(&pwm) {
         return 0;
     }
-    let duty = w[79] % 256;
-    let pwm = w[84];
-    match pwm {
-        9 => 9 * duty,
-        12 => 12 * duty,
-        15 => 15 * duty,
-        _ => 0,
-    }
+    pwm * (w[79] % 256)
 }
 
-fn conditions_of(w: &[u64; 108]) -> Conditions {
-    Conditions {
+fn conditions_of(w: &[u64; 108]) -> Option<Conditions> {
+    Some(Conditions {
         display_on: w[55] != 0,
         oscillator_enabled: w[56] != 0,
         supply: Supply {
-            supply_millivolts: (w[57] % 65536) as u16,
-            temperature_millicelsius: (w[58] % 2147483648) as i32,
+            supply_millivolts: u16::try_from(w[57]).ok()?,
+            temperature_millicelsius: i32::try_from(w[58]).ok()?,
             power_save: w[59] != 0,
             waiting: w[60] != 0,
         },
-    }
+    })
 }
 
 fn drive_agrees(
     scan: Scan,
     settings: Settings,
     analog: voltage::Settings,
+    conditions: Conditions,
     ram: &[u8; 4096],
     icons: &[u8; 256],
     w: &[u64; 108],
 ) -> bool {
-    let driven = scan::drive::drive(
-        scan,
-        settings,
-        analog,
-        conditions_of(w),
-        moment_of(w),
-        ram,
-        icons,
-    );
-    let check = driven.check;
-    let drive = driven.drive;
-    let Check::Passed = check else {
+    let driven = scan::drive::drive(scan, settings, analog, conditions, moment_of(w), ram, icons);
+    let Ok(Driven { drive, frame }) = driven else {
         return false;
     };
-    same_drive(drive, w) & (driven.frame as u64 == frame_of(w)) & (electrodes(drive) == w[106])
+    same_drive(drive, w) & (u64::from(frame) == frame_of(w)) & (electrodes(drive) == w[106])
 }
 
 fn image_agrees(settings: Settings, ram: &[u8; 4096], icons: &[u8; 256], w: &[u64; 108]) -> bool {
     let mut image = [0u8; 6144];
-    let Check::Passed = scan::render(settings, w[61] != 0, ram, icons, &mut image) else {
-        return false;
-    };
-    replay::sum_of(&image) == w[107]
+    scan::render(settings, w[61] != 0, ram, icons, &mut image).is_ok() && sum_of(&image) == w[107]
 }
 
-pub(crate) fn agrees(w: &[u64; 108]) -> bool {
-    let mut settings_bytes = [0u8; 20];
-    let mut analog_bytes = [0u8; 8];
-    let mut scan_bytes = [0u8; 14];
-    let fits = narrow(w, 0, &mut settings_bytes)
-        & narrow(w, 20, &mut analog_bytes)
-        & narrow(w, 41, &mut scan_bytes)
-        & (w[57] < 65536)
-        & (w[58] < 2147483648);
+// Whether ours answers as a line says, if its fields can hold the numbers.
+fn answers(w: &[u64; 108]) -> Option<bool> {
+    let settings = settings_of(bytes_of(&w[..20])?);
+    let analog = voltage_cases::settings_of(bytes_of(&w[20..28])?);
+    let scan = scan_of(w, bytes_of(&w[41..55])?);
+    let conditions = conditions_of(w)?;
     let mut ram = [0u8; 4096];
     let mut icons = [0u8; 256];
     fill(w[62], w[63], &mut ram);
     fill(w[62], w[63] % 251 + 1, &mut icons);
-    let settings = settings_of(&settings_bytes);
-    let scan = scan_of(w, &scan_bytes);
-    let analog = crate::voltage_cases::settings_of(&analog_bytes);
-    fits & count_agrees(scan, settings, w)
-        & drive_agrees(scan, settings, analog, &ram, &icons, w)
-        & image_agrees(settings, &ram, &icons, w)
+    Some(
+        count_agrees(scan, settings, w)
+            & drive_agrees(scan, settings, analog, conditions, &ram, &icons, w)
+            & image_agrees(settings, &ram, &icons, w),
+    )
+}
+
+pub(crate) fn agrees(w: &[u64; 108]) -> bool {
+    answers(w) == Some(true)
 }

@@ -1,61 +1,53 @@
 // Cases of the voltages: what is answered in the cases P1 to P5 of document 01, 'Edge figures', some
 // answers of the setting finder, and one kind of lines.
-use crate::words::narrow;
+use crate::words::{bytes_of, level_word};
 use std::io;
-use voltage::finder::Found;
-use voltage::{Answer, LcdVoltages, Level, Settings, Supply};
+use voltage::finder::Pair;
+use voltage::{LcdVoltages, Settings, Supply};
 
 // All of the power control on, slope 0, no trim.
 fn settings(regulator: u8, contrast: u8, booster: u8, bias: u8) -> Settings {
     Settings {
-        contrast: contrast,
+        contrast,
         contrast_trim: 0,
         otp_control: 0,
-        regulator: regulator,
+        regulator,
         power_control: 7,
-        booster: booster,
-        bias: bias,
+        booster,
+        bias,
         temperature_slope: 0,
     }
 }
 
-fn supply(millivolts: u16, temperature: i32) -> Supply {
+fn supply(supply_millivolts: u16, temperature_millicelsius: i32) -> Supply {
     Supply {
-        supply_millivolts: millivolts,
-        temperature_millicelsius: temperature,
+        supply_millivolts,
+        temperature_millicelsius,
         power_save: false,
         waiting: false,
     }
 }
 
-fn number(rt: &impl Print, n: u32) -> io::Result<()> {
-    print!(rt; " {n}")
-}
-
-fn level(rt: &impl Print, l: Level) -> io::Result<()> {
-    match l {
-        Level::Absent => print!(rt; " -"),
-        Level::Microvolts(v) => number(rt, v),
+fn level(rt: &impl Print, level: Option<u32>) -> io::Result<()> {
+    match level {
+        Some(microvolts) => print!(rt; " {microvolts}"),
+        None => print!(rt; " -"),
     }
 }
 
 // The pump, the target, and V0 to V4.
 fn show(rt: &impl Print, v: LcdVoltages) -> io::Result<()> {
-    level(rt, v.pump)?;
-    number(rt, v.target)?;
-    level(rt, v.v0)?;
-    level(rt, v.v1)?;
-    level(rt, v.v2)?;
-    level(rt, v.v3)?;
-    level(rt, v.v4)?;
+    for shown in [v.pump, Some(v.target), v.v0, v.v1, v.v2, v.v3, v.v4] {
+        level(rt, shown)?;
+    }
     println!(rt; "")
 }
 
 fn case(rt: &impl Print, name: &str, settings: Settings, supply: Supply) -> io::Result<()> {
     print!(rt; "{name}")?;
     match voltage::voltages(settings, supply) {
-        Answer::Voltages(v) => show(rt, v),
-        Answer::Refused(_) => println!(rt; " refused"),
+        Ok(v) => show(rt, v),
+        Err(_) => println!(rt; " refused"),
     }
 }
 
@@ -63,12 +55,16 @@ fn case(rt: &impl Print, name: &str, settings: Settings, supply: Supply) -> io::
 fn find(rt: &impl Print, low: u32, high: u32) -> io::Result<()> {
     print!(rt; "find")?;
     match voltage::finder::find_setting(settings(0, 0, 0, 0), 25000, low, high) {
-        Found::Setting {
-            regulator,
-            contrast,
-        } => println!(rt; " {regulator} {contrast}"),
-        Found::None => println!(rt; " none"),
-        Found::Refused(_) => println!(rt; " refused"),
+        Ok(
+            Some(
+                Pair {
+                    regulator,
+                    contrast,
+                },
+            ),
+        ) => println!(rt; " {regulator} {contrast}"),
+        Ok(None) => println!(rt; " none"),
+        Err(_) => println!(rt; " refused"),
     }
 }
 
@@ -90,7 +86,7 @@ pub(crate) fn figures(rt: &impl Print) -> io::Result<()> {
 }
 
 // The settings of a line, in the order in which the original declares them.
-pub(crate) fn settings_of(b: &[u8; 8]) -> Settings {
+pub(crate) fn settings_of(b: [u8; 8]) -> Settings {
     Settings {
         contrast: b[0],
         regulator: b[1],
@@ -103,50 +99,41 @@ pub(crate) fn settings_of(b: &[u8; 8]) -> Settings {
     }
 }
 
-// An absent level is 2^32 in a line.
-fn is_level(l: Level, word: u64) -> bool {
-    match l {
-        Level::Absent => word == 4294967296,
-        Level::Microvolts(v) => word == v as u64,
-    }
+// Voltages as a line has them: target pump v0 v1 v2 v3 v4.
+pub(crate) fn words_of(v: LcdVoltages) -> [u64; 7] {
+    [
+        u64::from(v.target),
+        level_word(v.pump),
+        level_word(v.v0),
+        level_word(v.v1),
+        level_word(v.v2),
+        level_word(v.v3),
+        level_word(v.v4),
+    ]
 }
 
-// Whether voltages have these numbers: target pump v0 v1 v2 v3 v4.
-pub(crate) fn same_voltages(v: LcdVoltages, answer: &[u64; 7]) -> bool {
-    let pump = v.pump;
-    let v0 = v.v0;
-    let v1 = v.v1;
-    let v2 = v.v2;
-    let v3 = v.v3;
-    let v4 = v.v4;
-    (answer[0] == v.target as u64)
-        & is_level(pump, answer[1])
-        & is_level(v0, answer[2])
-        & is_level(v1, answer[3])
-        & is_level(v2, answer[4])
-        & is_level(v3, answer[5])
-        & is_level(v4, answer[6])
+// What a line asks, if its fields can hold the numbers.
+fn asked(w: &[u64; 108]) -> Option<(Settings, Supply)> {
+    let settings = settings_of(bytes_of(&w[..8])?);
+    let supply = Supply {
+        supply_millivolts: u16::try_from(w[8]).ok()?,
+        temperature_millicelsius: replay::temperature(u64::from(u32::try_from(w[9]).ok()?)),
+        power_save: flag_of(w[10])?,
+        waiting: flag_of(w[11])?,
+    };
+    Some((settings, supply))
+}
+
+// A yes is 1, and a no 0.
+fn flag_of(word: u64) -> Option<bool> {
+    (word < 2).then_some(word == 1)
 }
 
 // Kind 5: contrast regulator power_control booster bias slope trim otp, supply (mV) temperature
 // (millidegrees C, and 2^31) power_save waiting | target pump v0 v1 v2 v3 v4 (microvolts, 2^32 none)
 pub(crate) fn agrees(w: &[u64; 108]) -> bool {
-    let mut bytes = [0u8; 8];
-    let fits = narrow(w, 0, &mut bytes);
-    let millivolts = w[8];
-    let millicelsius = w[9];
-    if !fits | (0xffff < millivolts) | (0xffff_ffff < millicelsius) | (1 < w[10]) | (1 < w[11]) {
-        return false;
-    }
-    let supply = Supply {
-        supply_millivolts: (millivolts % 65536) as u16,
-        temperature_millicelsius: replay::temperature(millicelsius),
-        power_save: w[10] == 1,
-        waiting: w[11] == 1,
-    };
-    let Answer::Voltages(v) = voltage::voltages(settings_of(&bytes), supply) else {
+    let Some((settings, supply)) = asked(w) else {
         return false;
     };
-    let answer = [w[12], w[13], w[14], w[15], w[16], w[17], w[18]];
-    same_voltages(v, &answer)
+    voltage::voltages(settings, supply).is_ok_and(|v| words_of(v)[..] == w[12..19])
 }

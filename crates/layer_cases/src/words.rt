@@ -1,22 +1,15 @@
-// The numbers of a line as bytes.
+// The numbers of a line as bytes, and levels as the numbers of a line.
 
-// The number of a line that stands i places behind another, or 0 beyond the end.
-fn word_at(line: &[u64], from: usize, i: usize) -> u64 {
-    if from < line.len() {
-        if i < line.len() - from {
-            return line[from + i];
-        }
+// So many words as bytes, if each is one.
+pub(crate) fn bytes_of<const N: usize>(words: &[u64]) -> Option<[u8; N]> {
+    let mut bytes = [0; N];
+    for (byte, &word) in bytes.iter_mut().zip(words) {
+        *byte = u8::try_from(word).ok()?;
     }
-    0
+    Some(bytes)
 }
 
-// The bytes of a line from a place on, and whether each number there is one.
-pub(crate) fn narrow(line: &[u64], from: usize, out: &mut [u8]) -> bool {
-    let mut fits = true;
-    for i in 0..out.len() {
-        let word = word_at(line, from, i);
-        out[i] = (word % 256) as u8;
-        fits = fits & (word < 256);
-    }
-    fits
+// A level that there is not is 2^32 in a line.
+pub(crate) fn level_word(level: Option<u32>) -> u64 {
+    level.map_or(0x1_0000_0000, u64::from)
 }

@@ -2,18 +2,19 @@
 use Prim.Native.Nat.{ℕ, zero, suc, ◌+◌, ◌*◌, ◌≤◌, ◌<◌}
 use mathlib.Core.Bool.{Bool, true}
 use mathlib.Core.List.{List, [], ◌∷◌, ◌++◌, map}
-use mathlib.Core.Option.{Option, none, some}
+use Rattle.std.specs.Prelude.{Option, None, Some, Result, Ok, Err, IsOk}
 use mathlib.Core.Path.{◌≡◌, refl, sym, ◌∙◌, ap}
 use native.Mathlib.Nat.{zero-add}
 use native.Mathlib.Numerals.{add-one}
 use native.Mathlib.Omega.{arith}
 use lib.ListN.{length, get_or, drop, drop_of_length-le, length-append, length-map}
 use lib.Seq.{drop-cons, get_or-append-add}
+use Rattle.checks.proofs.Chains.{never}
 use Rattle.scan.specs.Check.{memory_ok, image_ok}
 use Rattle.scan.specs.Drive.{driven}
 use Rattle.scan.specs.Image.{lit_by, pixel, image}
 use Rattle.scan.proofs.Images.{length_image, image_byte}
-use Rattle.controller.specs.declared.check.Check.{Check}
+use Rattle.controller.specs.declared.check.Refusal.{Refusal}
 use Rattle.controller.specs.declared.state.Nt7508.{Nt7508}
 use Rattle.controller.specs.Check.{check_state, check_image}
 use Rattle.controller.specs.Byte.{conditions_of}
@@ -38,15 +39,20 @@ module _ (p : List ℕ × ℕ) (image : List ℕ) (i : ℕ) where
   grays_done h = rw (drop_of_length-le image h)
 
 -- a state that passes, with memory and an image of their lengths, is painted, and its picture is the head and those pixels
-module _ (x : Nt7508) (h : check_state x ≡ none) (ram icons before : List ℕ) (of_ram : length ram ≡ 4096) (of_icons : length icons ≡ 256) (of_image : length before ≡ 6144) where
-  passes : check_image x ram icons (length before) ≡ none
+module _ (x : Nt7508) (h : check_state x ≡ None) (ram icons before : List ℕ) (of_ram : length ram ≡ 4096) (of_icons : length icons ≡ 256) (of_image : length before ≡ 6144) where
+  passes : check_image x ram icons (length before) ≡ None
   unfolding memory_ok image_ok
   passes =
       let lent : memory_ok ram icons ≡ true = rw (of_ram, of_icons) in
       image_alone x h ram icons lent (length before) ∙ rw of_image
 
+  pub paints : (check : Result Unit Refusal) (pixels : List ℕ) → painted check pixels ≡ render_of x ram icons before → IsOk check
+  unfolding render_of
+  paints (Ok a) pixels e = refl
+  paints (Err why) pixels e = absurd (never (ap (λ (r : Option ℕ × List ℕ). r.0) e ∙ passes))
+
   pub picture_put :
-      (check : Check) (pixels : List ℕ) (p : List ℕ × ℕ) → painted check pixels ≡ render_of x ram icons before
+      (check : Result Unit Refusal) (pixels : List ℕ) (p : List ℕ × ℕ) → painted check pixels ≡ render_of x ram icons before
       → put (put p head) (map gray_of pixels) ≡ put p (picture_of (record { state = x; ram = ram; icons = icons }))
   unfolding render_of picture_of
   picture_put check pixels p e =
@@ -75,11 +81,11 @@ module _ (m : Machine) where
 
 -- what a text draws, by where it ends
 module _ (text : List ℕ) where
-  pub drawn_refused : (number line : ℕ) → (run_of text fresh).refusal ≡ some (number, line) → refusal_line number line ≡ drawn text
+  pub drawn_refused : (number line : ℕ) → (run_of text fresh).refusal ≡ Some (number, line) → refusal_line number line ≡ drawn text
   unfolding drawn
   drawn_refused number line h = rw h
 
-  pub drawn_whole : (run_of text fresh).refusal ≡ none → picture_of (run_of text fresh).machine ≡ drawn text
+  pub drawn_whole : (run_of text fresh).refusal ≡ None → picture_of (run_of text fresh).machine ≡ drawn text
   unfolding drawn
   drawn_whole h = rw h
 
@@ -97,8 +103,8 @@ unfolding drawn refusal_text
 drawn_fits text = let r = run_of text fresh in go r.refusal r.machine
   where
     go : (refusal : Option (ℕ × ℕ)) (m : Machine) → length (shown_at refusal m) ≤ 6157
-    go none m = omega (arith, picture_length m)
-    go (some at) m = omega (arith, refusal_few (some at))
+    go None m = omega (arith, picture_length m)
+    go (Some at) m = omega (arith, refusal_few (Some at))
 
 pub put_drawn : (text out : List ℕ) → length out ≡ 6157 → put (out, 0) (drawn text) ≡ written out (drawn text)
 unfolding written

@@ -2,7 +2,7 @@
 use Prim.Native.Nat.{ℕ, ◌+◌, ◌≤◌}
 use mathlib.Core.Bool.{Bool, true, false, cond}
 use mathlib.Core.List.{List, [], ◌∷◌}
-use mathlib.Core.Option.{Option, none, some}
+use Rattle.std.specs.Prelude.{Option, None, Some}
 use mathlib.Core.Path.{◌≡◌, ◌∙◌, ap}
 use lib.ListN.{length, drop}
 use borrow.Author.Tests.{le-leb}
@@ -18,22 +18,23 @@ use Rattle.session.specs.Line.{line_of}
 use Rattle.session.specs.Session.{Turn, Run, Answer, room, moment_of, wait_of, call_of, check_of, after_of, turn_of, onward, run_from, run_of, laid, session, refused_at, answered}
 
 -- a call, a line and all lines leave a state that passes, if they are given one
-call_passes : (c : Option Call) (m : Machine) → check_state m.state ≡ none → check_state (after_of c m).state ≡ none
-call_passes none m h = h
-call_passes (some c) m h = after_passes m h c
+call_passes : (c : Option Call) (m : Machine) → check_state m.state ≡ None → check_state (after_of c m).state ≡ None
+call_passes None m h = h
+call_passes (Some c) m h = after_passes m h c
 
-turn_passes : (l : Line) (m : Machine) → check_state m.state ≡ none → check_state (turn_of l m).machine.state ≡ none
+turn_passes : (l : Option Line) (m : Machine) → check_state m.state ≡ None → check_state (turn_of l m).machine.state ≡ None
 unfolding turn_of
-turn_passes l m h = go (check_of m (moment_of l.us) l.action)
+turn_passes None m h = h
+turn_passes (Some l) m h = go (check_of m (moment_of l.us) l.action)
   where
     c : Option Call
     c = call_of (wait_of m) (moment_of l.us) l.action
 
-    go : (k : Option ℕ) → check_state (unless_refused k (after_of c m) m).state ≡ none
-    go none = call_passes c m h
-    go (some n) = h
+    go : (k : Option ℕ) → check_state (unless_refused k (after_of c m) m).state ≡ None
+    go None = call_passes c m h
+    go (Some n) = h
 
-lines_pass : (line : ℕ) (ls : List (List ℕ)) (m : Machine) → check_state m.state ≡ none → check_state (run_from line ls m).machine.state ≡ none
+lines_pass : (line : ℕ) (ls : List (List ℕ)) (m : Machine) → check_state m.state ≡ None → check_state (run_from line ls m).machine.state ≡ None
 unfolding run_from
 lines_pass line [] m h = h
 lines_pass line (l ∷ ls) m h =
@@ -42,12 +43,12 @@ lines_pass line (l ∷ ls) m h =
     go t.refusal t e (lines_pass (line + 1) ls t.machine e)
   where
     go :
-        (k : Option ℕ) (t : Turn) → check_state t.machine.state ≡ none → check_state (run_from (line + 1) ls t.machine).machine.state ≡ none
-        → check_state (onward k line t (run_from (line + 1) ls)).machine.state ≡ none
-    go none t stopped on = on
-    go (some n) t stopped on = stopped
+        (k : Option ℕ) (t : Turn) → check_state t.machine.state ≡ None → check_state (run_from (line + 1) ls t.machine).machine.state ≡ None
+        → check_state (onward k line t (run_from (line + 1) ls)).machine.state ≡ None
+    go None t stopped on = on
+    go (Some n) t stopped on = stopped
 
-pub end_passes : (text ram icons : List ℕ) → check_state (run_of text (start ram icons)).machine.state ≡ none
+pub end_passes : (text ram icons : List ℕ) → check_state (run_of text (start ram icons)).machine.state ≡ None
 unfolding run_of
 end_passes text ram icons = go (opens text)
   where
@@ -55,9 +56,9 @@ end_passes text ram icons = go (opens text)
     m = start ram icons
 
     closed : Run
-    closed = record { machine = m; rows = []; refusal = some (9, 1) }
+    closed = record { machine = m; rows = []; refusal = Some (9, 1) }
 
-    go : (t : Bool) → check_state (cond t (run_from 2 (lines_of (drop (length names_line) text)) m) closed).machine.state ≡ none
+    go : (t : Bool) → check_state (cond t (run_from 2 (lines_of (drop (length names_line) text)) m) closed).machine.state ≡ None
     go true = lines_pass 2 (lines_of (drop (length names_line) text)) m power_on_passes
     go false = power_on_passes
 
@@ -75,5 +76,5 @@ module _ (r : Ended) (text ram icons out : List ℕ) {ram' icons' out' : List �
   unfolding laid
   end_machine = ap (λ (a : Answer). a.machine) (e ∙ laid_out)
 
-  pub end_state : check_state r.state ≡ none
+  pub end_state : check_state r.state ≡ None
   end_state = ap (λ (m : Machine). check_state m.state) end_machine ∙ end_passes text ram icons

@@ -1,7 +1,6 @@
 -- The panel at the end of a session, as the bytes of a PGM picture. PGM counts grays from 0, black, and has the rows from
 -- the upper one down, each from left to right, as the image has.
-use Rattle.std.specs.Prelude.{ℕ, ◌-◌, List, [], ◌∷◌, ◌++◌, map, length, drop}
-use Rattle.std.proofs.Math.Option.{Option, none, some}
+use Rattle.std.specs.Prelude.{ℕ, ◌-◌, List, [], ◌∷◌, ◌++◌, map, length, drop, Option, None, Some}
 use Rattle.scan.specs.Drive.{driven}
 use Rattle.scan.specs.Image.{image}
 use Rattle.controller.specs.Byte.{conditions_of}
@@ -24,8 +23,8 @@ picture_of m = head ++ map gray_of (image m.state.display (driven (conditions_of
 
 -- a session that was refused has no picture, only the line of its refusal
 abbrev pub shown_at : (refusal : Option (ℕ × ℕ)) → Machine → List ℕ
-shown_at none m = picture_of m
-shown_at (some at) m = refusal_line at.0 at.1
+shown_at None m = picture_of m
+shown_at (Some at) m = refusal_line at.0 at.1
 
 -- power-on with memory 0
 abbrev pub fresh : Machine

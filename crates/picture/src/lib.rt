@@ -1,15 +1,15 @@
 // The panel at the end of a session as a PGM picture in lent bytes.
 #![tactic(auto)]
 
-ghost use Rattle.std.specs.Prelude.{◌≡◌, map};
-ghost use Rattle.std.proofs.Math.Option.{none};
+ghost use Rattle.std.specs.Prelude.{◌≡◌, None, map};
 ghost use Rattle.controller.specs.Check.{check_state};
 ghost use Rattle.decimal.specs.Print.{put};
 ghost use Rattle.picture.specs.Picture.{gray_of, picture_of, drawn, written};
 
+use checks::Numbered;
 use controller::Nt7508;
 use decimal::{put_byte, put_bytes};
-use session::{End, number, put_refusal};
+use session::put_refusal;
 
 // The bytes of a picture; a refusal's line has fewer.
 pub const LENGTH: usize = 6157;
@@ -21,25 +21,25 @@ fn gray_of(level: u8) -> u8
 }
 
 // Puts the grays of an image.
+#[tactic(auto, using(crate::proofs::Drawing::grays_next, crate::proofs::Drawing::grays_done))]
 fn put_grays(out: &mut [u8], at: usize, image: &[u8]) -> usize
     ensures { (out.new, result) ≡ put (out.old, at) (map gray_of image.now) }
 {
     let mut next = at;
-    let mut i = 0;
-    while i < image.len() {
-        next = put_byte(out, next, gray_of(image[i]));
-        i += 1;
+    for &level in image {
+        next = put_byte(out, next, gray_of(level));
     }
     next
 }
 
-// Puts the picture of a controller and its memory at the start.
+// Puts the picture of a controller and its memory at the start. A state that passes its checks is not
+// refused an image.
 fn put_picture(state: Nt7508, ram: &[u8; 4096], icons: &[u8; 256], out: &mut [u8]) -> usize
-    requires { check_state state ≡ none }
+    requires { check_state state ≡ None }
     ensures { (out.new, result) ≡ put (out.old, 0) (picture_of (record { state = state; ram = ram.now; icons = icons.now })) }
 {
     let mut image = [0u8; 6144];
-    state.render(ram, icons, &mut image);
+    state.render(ram, icons, &mut image).unwrap();
     let at = put_bytes(out, 0, b"P5\n96 64\n255\n");
     put_grays(out, at, &image)
 }
@@ -53,10 +53,8 @@ pub fn draw(text: &[u8], out: &mut [u8; LENGTH]) -> usize
     let mut icons = [0u8; 256];
     let mut listing = [0u8; 589824];
     let ended = session::run(text, &mut ram, &mut icons, &mut listing);
-    let state = ended.state;
-    let end = ended.end;
-    if let End::Refused { why, line } = end {
-        return put_refusal(out, 0, number(why), line);
+    match ended.end {
+        Ok(()) => put_picture(ended.state, &ram, &icons, out),
+        Err(stop) => put_refusal(out, 0, stop.why.number(), stop.line),
     }
-    put_picture(state, &ram, &icons, out)
 }

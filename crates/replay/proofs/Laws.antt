@@ -1,7 +1,9 @@
 -- Remainders, and numbers of 32 bits less 2^31.
-use Rattle.std.proofs.Common.{◌≡◌, ℕ, suc, ◌+◌, ◌-◌, ◌*◌, ◌/◌, ◌%◌, ◌^◌, ◌<◌, Bool, true, false, cond, ltb, List, get_or, set, pos, negsuc, ◌-ℤ◌, sym, refl, ap, ◌∙◌, arith, w32, SFits, ltb-true}
+use Rattle.std.proofs.Common.{◌≡◌, ℕ, suc, ◌+◌, ◌-◌, ◌*◌, ◌/◌, ◌%◌, ◌^◌, ◌<◌, ◌≤◌, Bool, true, false, cond, ltb, List, set, pos, negsuc, ◌-ℤ◌, sym, refl, ap, ◌∙◌, arith, w32, SFits, ltb-true}
 use lib.Arith.{digits_mod}
-use Rattle.replay.specs.Rules.{added, sum_to, sum_to_word, byte_at, filled_to, temperature_of}
+use Rattle.replay.specs.declared.tally.Tally.{Tally}
+use Rattle.replay.specs.Tally.{counted}
+use Rattle.replay.specs.Rules.{added, byte_at, filled_to, temperature_of}
 
 one_more_lem : (n : ℕ) → n + 1 ≡ suc n
 one_more_lem n = omega arith
@@ -21,15 +23,7 @@ byte_next step first i =
     let whole : step * (i + 1) + first ≡ q * 251 + a % 251 = omega arith in
     sym (ap (λ (n : ℕ). n % 251) whole ∙ digits_mod q (omega arith))
 
--- one byte or word more
-pub sum_next : (n : ℕ) (bytes : List ℕ) → sum_to (n + 1) bytes ≡ added (sum_to n bytes) (get_or bytes n 0)
-unfolding sum_to
-sum_next n bytes = ap (λ (m : ℕ). sum_to m bytes) (one_more_lem n)
-
-pub sum_next_word : (n : ℕ) (words : List ℕ) → sum_to_word (n + 1) words ≡ added (added (sum_to_word n words) (get_or words n 0 / 4294967296)) (get_or words n 0 % 4294967296)
-unfolding sum_to_word
-sum_next_word n words = ap (λ (m : ℕ). sum_to_word m words) (one_more_lem n)
-
+-- one byte more
 pub filled_next : (n step first : ℕ) (memory : List ℕ) → filled_to (n + 1) step first memory ≡ set (filled_to n step first memory) n (byte_at step first n)
 unfolding filled_to
 filled_next n step first memory = ap (λ (m : ℕ). filled_to m step first memory) (one_more_lem n)
@@ -46,3 +40,8 @@ lowered n h = go (ltb n 2147483648) refl
 
 pub temperature_fits : (word : ℕ) → SFits w32 (temperature_of word)
 temperature_fits word = lowered (word % 2 ^ 32) (omega arith)
+
+-- a case more, of which there are no more than n
+pub counted_within : (t : Tally) (next : ℕ) (agrees : Bool) {n : ℕ} → n + 1 < 2 ^ 64 → t.cases ≤ n → t.differ ≤ t.cases → ((counted t next agrees).cases ≤ n + 1) × ((counted t next agrees).differ ≤ (counted t next agrees).cases)
+counted_within t next true h few fewer = (omega arith, omega arith)
+counted_within t next false h few fewer = (omega arith, omega arith)

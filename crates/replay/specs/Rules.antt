@@ -1,26 +1,20 @@
 -- The rules of a list.
-use Rattle.std.specs.Prelude.{ℕ, zero, suc, ◌+◌, ◌*◌, ◌/◌, ◌%◌, ◌^◌, List, length, ℤ, pos, ◌-ℤ◌, slice_index, slice_set}
+use Rattle.std.specs.Prelude.{ℕ, zero, suc, ◌+◌, ◌*◌, ◌/◌, ◌%◌, ◌^◌, List, length, ℤ, pos, ◌-ℤ◌, fold, slice_set}
 
 -- one number more in a sum
 abbrev pub added : (sum x : ℕ) → ℕ
 added sum x = (31 * sum + x) % 4294967296
 
--- the sum of the first n of some bytes
-unfoldable pub sum_to : ℕ → List ℕ → ℕ
-sum_to zero bytes = 0
-sum_to (suc n) bytes = added (sum_to n bytes) (slice_index bytes n)
+-- the sum of some bytes
+abbrev pub sum_of : List ℕ → ℕ
+sum_of bytes = fold added 0 bytes
 
-unfoldable pub sum_of : List ℕ → ℕ
-sum_of bytes = sum_to (length bytes) bytes
+-- the halves of a word in a sum, the high half and then the low half
+abbrev pub added_halves : (sum word : ℕ) → ℕ
+added_halves sum word = added (added sum (word / 4294967296)) (word % 4294967296)
 
--- the sum of the first n of some words, the high half of each and then its low half
-unfoldable pub sum_to_word : ℕ → List ℕ → ℕ
-sum_to_word zero words = 0
-sum_to_word (suc n) words =
-    added (added (sum_to_word n words) (slice_index words n / 4294967296)) (slice_index words n % 4294967296)
-
-unfoldable pub sum_of_words : List ℕ → ℕ
-sum_of_words words = sum_to_word (length words) words
+abbrev pub sum_of_words : List ℕ → ℕ
+sum_of_words words = fold added_halves 0 words
 
 -- byte i of memory that two numbers make
 abbrev pub byte_at : (step first i : ℕ) → ℕ

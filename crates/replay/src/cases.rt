@@ -2,49 +2,39 @@
 ghost use Rattle.std.specs.Prelude.{◌≡◌};
 ghost use Rattle.replay.specs.Cases.{length_of, case_at};
 
-use decimal::{Line, Read};
-
-// The kind of a case and the place of the next line, or that the line holds no case.
-#[derive(Clone, Copy)]
-pub enum Case {
-    Of { kind: u64, next: usize },
-    None,
+// The kind of a case, and the place of the next line.
+#[derive(Clone, Copy, Debug, PartialEq, Eq)]
+pub struct Case {
+    pub kind: u64,
+    pub next: usize,
 }
 
 // How many numbers a case has, by its kind from 1 on.
 const LENGTHS: [usize; 9] = [0, 3, 10, 9, 11, 19, 108, 77, 10];
 
 // No case has 0 numbers.
+#[tactic(auto, unfolding(crate::specs::Cases::length_of))]
 fn length_of(kind: u64) -> usize
     ensures { result ≡ length_of kind }
 {
-    if kind < 9 {
-        return LENGTHS[kind as usize];
-    }
-    0
+    LENGTHS.get(kind as usize).copied().unwrap_or(0)
 }
 
-// Reads the case of the line at a place. Its numbers go to the first words of `w`.
-pub fn case_at(text: &[u8], at: usize, w: &mut [u64]) -> Case
+// Reads the case of the line at a place, if it holds one. Its numbers go to the first words of `w`.
+pub fn case_at(text: &[u8], at: usize, w: &mut [u64]) -> Option<Case>
     ensures { (result, w.new) ≡ case_at text.now at w.old }
 {
-    let read = decimal::field(text, at, b' ');
-    let Read::Number { value, next } = read else {
-        return Case::None;
-    };
-    let n = length_of(value);
+    let kind = decimal::field(text, at, b' ')?;
+    let n = length_of(kind.value);
     if n == 0 {
-        return Case::None;
+        return None;
     }
     if w.len() < n {
-        return Case::None;
+        return None;
     }
-    let line = decimal::read_line(text, next, &mut w[..n]);
-    let Line::Ended(end) = line else {
-        return Case::None;
-    };
-    Case::Of {
-        kind: value,
-        next: end,
-    }
+    let next = decimal::read_line(text, kind.next, &mut w[..n])?;
+    Some(Case {
+        kind: kind.value,
+        next,
+    })
 }

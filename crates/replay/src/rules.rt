@@ -3,12 +3,6 @@
 ghost use Rattle.std.specs.Prelude.{◌≡◌};
 ghost use Rattle.replay.specs.Rules.{added as added_to, sum_of, sum_of_words, filled, temperature_of};
 
-pub fn widened(x: u8) -> u64
-    ensures { result ≡ x }
-{
-    x as u64
-}
-
 // One number more in a sum.
 pub fn added(sum: u64, x: u64) -> u64
     ensures { result ≡ added_to sum x }
@@ -19,22 +13,19 @@ pub fn added(sum: u64, x: u64) -> u64
 pub fn sum_of(bytes: &[u8]) -> u64
     ensures { result ≡ sum_of bytes.now }
 {
-    let mut sum = 0;
-    for i in 0..bytes.len() {
-        sum = added(sum, widened(bytes[i]));
-    }
-    sum
+    bytes
+        .iter()
+        .fold(0, |sum, &byte| added(sum, u64::from(byte)))
 }
 
 // The sum of the halves of words, the high half of each first.
 pub fn sum_of_words(words: &[u64]) -> u64
     ensures { result ≡ sum_of_words words.now }
 {
-    let mut sum = 0;
-    for i in 0..words.len() {
-        sum = added(added(sum, words[i] / 4294967296), words[i] % 4294967296);
-    }
-    sum
+    words.iter().fold(
+        0,
+        |sum, word| added(added(sum, word / 4294967296), word % 4294967296),
+    )
 }
 
 // Memory by two numbers: byte i is (step i + first) mod 251.
@@ -42,8 +33,8 @@ pub fn fill(step: u64, first: u64, memory: &mut [u8])
     ensures { memory.new ≡ filled step first memory.old }
 {
     let mut value = first % 251;
-    for i in 0..memory.len() {
-        memory[i] = value as u8;
+    for byte in memory.iter_mut() {
+        *byte = value as u8;
         value = (value + step % 251) % 251;
     }
 }

@@ -3,7 +3,7 @@ ghost use Rattle.std.specs.Prelude.{◌≡◌};
 ghost use Rattle.replay.specs.Tally.{more as more_than, started, counted as counted_case, ended as ended_at};
 
 // The place of the next case, how many cases there were before it, and how many of them differ.
-#[derive(Clone, Copy)]
+#[derive(Clone, Copy, Debug, PartialEq, Eq)]
 pub struct Tally {
     pub at: usize,
     pub cases: u64,
@@ -13,7 +13,7 @@ pub struct Tally {
 fn more(count: u64) -> u64
     ensures { result ≡ more_than count }
 {
-    std::num::wrapping_add_u64(count, 1)
+    count.wrapping_add(1)
 }
 
 impl Tally {
@@ -31,22 +31,21 @@ impl Tally {
     pub fn counted(self, next: usize, agrees: bool) -> Self
         ensures { result ≡ counted_case self next agrees }
     {
-        let mut tally = self;
-        tally.at = next;
-        tally.cases = more(self.cases);
-        if agrees {
-            return tally;
+        Self {
+            at: next,
+            cases: more(self.cases),
+            differ: if agrees {
+                self.differ
+            } else {
+                more(self.differ)
+            },
         }
-        tally.differ = more(self.differ);
-        tally
     }
 
     // Where there is no case: nothing behind it is read.
     pub fn ended(self, end: usize) -> Self
         ensures { result ≡ ended_at self end }
     {
-        let mut tally = self;
-        tally.at = end;
-        tally
+        Self { at: end, ..self }
     }
 }

@@ -2,13 +2,13 @@
 -- and resuming, and bytes keep two scans agreeing, and scans that agree have the same drive. The claim over lists of calls (crate
 -- strike) goes by this.
 use Rattle.std.proofs.Common.{◌≡◌, ℕ, zero, suc, ◌+◌, ◌%◌, ◌≤◌, Bool, true, false, cond, ◌||◌, eqb, List, sym, refl, ap, ◌∙◌, le_refl}
+use Rattle.std.specs.Prelude.{Option, Some, None}
 use Rattle.clock.specs.declared.time.Time.{Time}
 use Rattle.clock.specs.Time.{raw, in_range}
+use Rattle.clock.specs.declared.edges.Clock.{Clock}
 use Rattle.scan.specs.declared.settings.Settings.{Settings}
 use Rattle.scan.specs.declared.state.Scan.{Scan}
-use Rattle.scan.specs.declared.state.ScanClock.{ScanClock}
 use Rattle.scan.specs.declared.state.Latch.{Latch}
-use Rattle.scan.specs.declared.latch.DataPage.{DataPage}
 use Rattle.scan.specs.State.{with_ticking, with_inversion, with_latch}
 use Rattle.scan.specs.Quantum.{row_ends, frame_ends, frame_after, quantum}
 use Rattle.scan.specs.Count.{due, due_at, count_for, count_to}
@@ -81,7 +81,7 @@ module _ (s : Settings) (ram icons : List ℕ) where
   latch_as_shown x l = ap (λ (t : Bool). with_latch x (record { segments = cond t x.latch.segments (present_latch x s ram icons); latched = true })) (sym l)
 
   -- before a change that could alter the row shown the latch is retained
-  pub retained_as_shown : (x : Scan) (page : DataPage) → affects page (latched_row x) ≡ true → retained x s page ram icons ≡ as_shown x s ram icons
+  pub retained_as_shown : (x : Scan) (page : Option ℕ) → affects page (latched_row x) ≡ true → retained x s page ram icons ≡ as_shown x s ram icons
   unfolding retained
   retained_as_shown x page a = rw a (go x.latch.latched refl)
     where
@@ -89,7 +89,7 @@ module _ (s : Settings) (ram icons : List ℕ) where
       go true l = sym (latched_as_shown x l)
       go false l = latch_as_shown x l
 
-  retained_counted : (x : Scan) (page : DataPage) (now : Time) → as_shown (count_to (retained x s page ram icons) s now) s ram icons ≡ as_shown (count_to x s now) s ram icons
+  retained_counted : (x : Scan) (page : Option ℕ) (now : Time) → as_shown (count_to (retained x s page ram icons) s now) s ram icons ≡ as_shown (count_to x s now) s ram icons
   retained_counted x page now = go (affects page (latched_row x)) refl
     where
       go : (t : Bool) → affects page (latched_row x) ≡ t → as_shown (count_to (retained x s page ram icons) s now) s ram icons ≡ as_shown (count_to x s now) s ram icons
@@ -116,9 +116,9 @@ module _ (s : Settings) (ram icons : List ℕ) where
       l : Latch
       l = record { segments = shown x s ram icons; latched = true }
 
-      go : (t : Bool) (k : ScanClock) → with_latch (cond t (started_if k x s now) (stopped x)) l ≡ cond t (started_if k (with_latch x l) s now) (stopped (with_latch x l))
-      go true (ScanClock.Running k) = refl
-      go true ScanClock.Stopped = refl
+      go : (t : Bool) (k : Option Clock) → with_latch (cond t (started_if k x s now) (stopped x)) l ≡ cond t (started_if k (with_latch x l) s now) (stopped (with_latch x l))
+      go true (Some k) = refl
+      go true None = refl
       go false k = refl
 
   resumed_as_shown : (x : Scan) (now : Time) (runs : Bool) → as_shown (resumed x s now runs) s ram icons ≡ resumed (as_shown x s ram icons) s now runs
@@ -160,7 +160,7 @@ module _ (s : Settings) (ram icons : List ℕ) where
         agree_both = agree_counted ∙ ap (λ (z : Scan). as_shown z s ram icons) (sym (counted_again y vy))
 
         -- one of them counted, and its latch retained
-        pub agree_retained : (page : DataPage) → Agree (retained (count_to x s now) s page ram icons) y s now ram icons
+        pub agree_retained : (page : Option ℕ) → Agree (retained (count_to x s now) s page ram icons) y s now ram icons
         agree_retained page = retained_counted (count_to x s now) page now ∙ agree_counted
 
         rows_same : latched_row (count_to x s now) ≡ latched_row (count_to y s now)
@@ -168,12 +168,12 @@ module _ (s : Settings) (ram icons : List ℕ) where
         rows_same = ap latched_row a
 
         -- before a command both are the same scan
-        pub command_same : retained (count_to x s now) s DataPage.None ram icons ≡ retained (count_to y s now) s DataPage.None ram icons
+        pub command_same : retained (count_to x s now) s None ram icons ≡ retained (count_to y s now) s None ram icons
         unfolding affects
-        command_same = retained_as_shown (count_to x s now) DataPage.None refl ∙ a ∙ sym (retained_as_shown (count_to y s now) DataPage.None refl)
+        command_same = retained_as_shown (count_to x s now) None refl ∙ a ∙ sym (retained_as_shown (count_to y s now) None refl)
 
         -- before a data byte both retain their latches, or neither does and the byte is not for the row shown
-        module _ (page : DataPage) (ram' icons' : List ℕ) (outside : (z : Scan) → affects page (latched_row z) ≡ false → shown z s ram' icons' ≡ shown z s ram icons) where
+        module _ (page : Option ℕ) (ram' icons' : List ℕ) (outside : (z : Scan) → affects page (latched_row z) ≡ false → shown z s ram' icons' ≡ shown z s ram icons) where
           shown_on : (z : Scan) → affects page (latched_row z) ≡ false → as_shown z s ram' icons' ≡ as_shown z s ram icons
           unfolding as_shown
           shown_on z h = ap (λ (segments : List ℕ). with_latch z (record { segments = segments; latched = true })) (outside z h)

@@ -1,15 +1,17 @@
 -- What the checks come to: the conditions of numbers 3 and 4 one by one, and what a call knows once its rows pass.
-use Rattle.std.proofs.Common.{◌≡◌, ℕ, ◌<◌, ◌≤◌, Bool, true, false, cond, ◌||◌, eqb, ltb, ◌⊎◌, List, length, sym, refl, ◌∙◌, inl, inr, arith, ltb-true, lt-ltb, eq-eqb, eqb-true, le-leb, leb-true}
+use Rattle.std.proofs.Common.{◌≡◌, ℕ, ◌<◌, ◌≤◌, Bool, true, false, ◌||◌, eqb, ltb, ◌⊎◌, List, length, sym, refl, ◌∙◌, inl, inr, ltb-true, lt-ltb, eq-eqb, eqb-true, le-leb, leb-true}
 use mathlib.Core.Bool.{or-true}
-use mathlib.Core.Option.{Option, none, some}
+use Rattle.std.specs.Prelude.{Option, Some, None, Result, Ok, Err, ⊤}
 use Rattle.checks.specs.Checks.{row, first_of, changed}
 use Rattle.checks.proofs.Chains.{first_passed, row_passed}
+use Rattle.checks.proofs.Results.{refused_at_ok, refused_at_err}
 use Rattle.checks.proofs.Tests.{both, either}
 use Rattle.clock.specs.Rate.{is_lcd}
-use Rattle.clock.specs.Check.{valid_clock, check_clock}
-use Rattle.clock.proofs.Answers.{check_passed, check_valid}
+use Rattle.clock.specs.Check.{number as number_of, valid_clock, check_clock}
+use Rattle.clock.specs.Check as clock_checks
+use Rattle.clock.proofs.Answers.{check_passed}
 use Rattle.clock.specs.Time.{in_range}
-use Rattle.scan.specs.Check.{refused, lines_ok, valid_settings, frc_count_ok, valid_frame, pwm_ok, valid_inversion, valid_scan, valid_running, check_scan, memory_ok, image_ok, in_order, check_moment, check_lent, check_image, check_but_clock}
+use Rattle.scan.specs.Check.{number, by_clock, refused, lines_ok, valid_settings, frc_count_ok, valid_frame, pwm_ok, valid_inversion, valid_scan, valid_running, check_scan, memory_ok, image_ok, in_order, check_moment, check_lent, check_image, check_but_clock}
 use Rattle.scan.specs.State.{rows, with_ticking}
 use Rattle.scan.specs.Run.{stopped}
 use Rattle.clock.specs.declared.time.Time.{Time}
@@ -17,13 +19,9 @@ use Rattle.clock.specs.declared.edges.Clock.{Clock}
 use Rattle.scan.specs.declared.settings.Settings.{Settings}
 use Rattle.scan.specs.declared.settings.Frame.{Frame}
 use Rattle.scan.specs.declared.state.Scan.{Scan}
-use Rattle.scan.specs.declared.state.ScanClock.{ScanClock}
 use Rattle.scan.specs.declared.state.Inversion.{Inversion}
 use Rattle.scan.specs.declared.check.Refusal.{Refusal}
-use Rattle.scan.specs.declared.check.Check.{Check}
-use Rattle.clock.specs.Check as clocks
-use Rattle.clock.specs.declared.check.Check as verdict
-use Rattle.clock.specs.declared.check.Refusal as reasons
+use Rattle.clock.specs.declared.check.Refusal as clocks
 
 -- what a frame end took, in range
 pub record FrameFits (f : Frame) : Type 0 where
@@ -90,7 +88,7 @@ pub record Valid (x : Scan) : Type 0 where
   pub inversion : InversionFits x.inversion
   pub clock_ok : valid_running x.ticking.clock x.ticking.rate ≡ true
 
-pub valid_scan_lem : (x : Scan) → check_scan x ≡ none → Valid x
+pub valid_scan_lem : (x : Scan) → check_scan x ≡ None → Valid x
 unfolding check_scan valid_scan
 valid_scan_lem x h =
     let p = first_passed _ _ h in
@@ -111,7 +109,7 @@ valid_scan_lem x h =
       clock_ok = row_passed 5 _ p.1;
     }
 
-pub valid_check : (x : Scan) → Valid x → check_scan x ≡ none
+pub valid_check : (x : Scan) → Valid x → check_scan x ≡ None
 unfolding check_scan valid_scan
 valid_check x v = simp (
   v.lcd,
@@ -129,11 +127,11 @@ pub valid_lcd : (x : Scan) → valid_scan x ≡ true → is_lcd x.ticking.rate �
 unfolding valid_scan
 valid_lcd x v = (both _ _ (both _ _ (both _ _ (both _ _ (both _ _ (both _ _ v).0).0).0).0).0).0
 
-pub valid_of : (x : Scan) → check_scan x ≡ none → valid_scan x ≡ true
+pub valid_of : (x : Scan) → check_scan x ≡ None → valid_scan x ≡ true
 unfolding check_scan
 valid_of x h = row_passed 4 _ (first_passed _ _ h).0
 
-pub check_by : (x : Scan) → valid_scan x ≡ true → valid_running x.ticking.clock x.ticking.rate ≡ true → check_scan x ≡ none
+pub check_by : (x : Scan) → valid_scan x ≡ true → valid_running x.ticking.clock x.ticking.rate ≡ true → check_scan x ≡ None
 unfolding check_scan
 check_by x v k = simp (v, k)
 
@@ -142,25 +140,33 @@ pub counters_in_range : (x : Scan) → valid_scan x ≡ true → Valid (stopped 
 unfolding valid_scan valid_running stopped with_ticking
 counters_in_range x v = valid_scan_lem (stopped x) (check_by (stopped x) v refl)
 
--- number 5 by the clock's own check
-module _ (x : Scan) (c : Clock) (k : verdict.Check) (v : valid_scan x ≡ true) (e : x.ticking.clock ≡ ScanClock.Running c) (h : clocks.refused k ≡ check_clock c x.ticking.rate) where
-  scan_lcd : is_lcd x.ticking.rate ≡ true
-  unfolding valid_scan
-  scan_lcd = (both _ _ (both _ _ (both _ _ (both _ _ (both _ _ (both _ _ v).0).0).0).0).0).0
+-- past number 4, the checks left are those of a clock that runs
+pub check_stopped : (x : Scan) → valid_scan x ≡ true → x.ticking.clock ≡ None → check_scan x ≡ None
+unfolding check_scan valid_running
+check_stopped x v e = simp (v, e)
 
-  by_clock : (t : Bool) → valid_clock c x.ticking.rate ≡ t → check_scan x ≡ cond t none (some 5)
-  unfolding check_scan valid_running
-  by_clock t q = simp (v, e, q)
+pub check_running : (x : Scan) (c : Clock) → valid_scan x ≡ true → x.ticking.clock ≡ Some c → check_clock c x.ticking.rate ≡ check_scan x
+unfolding check_scan valid_running check_clock
+check_running x c v e = simp (v, e, valid_lcd x v)
 
-  pub passed_by_clock : k ≡ verdict.Check.Passed → check_scan x ≡ none
-  passed_by_clock p = by_clock true (check_valid c x.ticking.rate k h p).1
+-- the clock's own check decides: where it passes the scan is valid, where it refuses the scan's number is 5
+module _ (x : Scan) (c : Clock) (v : valid_scan x ≡ true) (e : x.ticking.clock ≡ Some c) (k : Result ⊤ clocks.Refusal) (h : clock_checks.refused k ≡ check_clock c x.ticking.rate) where
+  pub passed_by_clock : k ≡ Ok tt → check_scan x ≡ None
+  passed_by_clock p = sym (check_running x c v e) ∙ refused_at_ok number_of k h p
 
-  pub refused_by_clock : {why : reasons.Refusal} → k ≡ verdict.Check.Refused why → check_scan x ≡ some 5
+  pub refused_by_clock : {why : clocks.Refusal} → k ≡ Err why → check_scan x ≡ Some 5
+  unfolding check_clock
   refused_by_clock p = go (valid_clock c x.ticking.rate) refl
     where
-      go : (t : Bool) → valid_clock c x.ticking.rate ≡ t → check_scan x ≡ some 5
-      go false q = by_clock false q
-      go true q = let r : k ≡ verdict.Check.Passed = check_passed c x.ticking.rate k h scan_lcd q in let z : ◌≡◌ {A = ℕ} 0 1 = cc in absurd (omega arith)
+      go : (t : Bool) → valid_clock c x.ticking.rate ≡ t → check_scan x ≡ Some 5
+      go true q = let z = sym (check_passed c x.ticking.rate k h (valid_lcd x v) q) ∙ p in cc
+      go false q = sym (check_running x c v e) ∙ simp (valid_lcd x v, q)
+
+-- and a clock's refusal keeps its number
+pub by_clock_number : (why : clocks.Refusal) → number (by_clock why) ≡ number_of why
+by_clock_number clocks.Refusal.Time = refl
+by_clock_number clocks.Refusal.Rate = refl
+by_clock_number clocks.Refusal.Clock = refl
 
 -- settings that pass number 3, condition by condition
 pub record ValidSettings (s : Settings) : Type 0 where
@@ -195,7 +201,7 @@ valid_settings_lem s h =
     }
 
 -- every row of a chain that passes
-in_order_passed : (memory image time settings scan : Option ℕ) → in_order memory image time settings scan ≡ none → (memory ≡ none) × ((image ≡ none) × ((time ≡ none) × ((settings ≡ none) × (scan ≡ none))))
+in_order_passed : (memory image time settings scan : Option ℕ) → in_order memory image time settings scan ≡ None → (memory ≡ None) × ((image ≡ None) × ((time ≡ None) × ((settings ≡ None) × (scan ≡ None))))
 unfolding in_order
 in_order_passed memory image time settings scan h =
     let a = first_passed memory _ h in
@@ -207,33 +213,33 @@ in_order_passed memory image time settings scan h =
 pub record Timed (x : Scan) (ok : Bool) (now : Time) : Type 0 where
   pub in_range_lem : in_range now ≡ true
   pub settings_ok_lem : ok ≡ true
-  pub scan_passed : check_scan x ≡ none
+  pub scan_passed : check_scan x ≡ None
 
-pub timed : (x : Scan) (ok : Bool) (now : Time) → check_moment x ok now ≡ none → Timed x ok now
+pub timed : (x : Scan) (ok : Bool) (now : Time) → check_moment x ok now ≡ None → Timed x ok now
 unfolding check_moment
 timed x ok now h =
     let p = in_order_passed _ _ _ _ _ h in
     record { in_range_lem = row_passed 1 _ p.1.1.0; settings_ok_lem = row_passed 3 _ p.1.1.1.0; scan_passed = p.1.1.1.1 }
 
-pub timed_check : (x : Scan) (ok : Bool) (now : Time) → Timed x ok now → check_moment x ok now ≡ none
+pub timed_check : (x : Scan) (ok : Bool) (now : Time) → Timed x ok now → check_moment x ok now ≡ None
 unfolding check_moment in_order
 timed_check x ok now t = simp (t.in_range_lem, t.settings_ok_lem, t.scan_passed)
 
 -- its checks are those but number 5, and then number 5
 last_row : (a b c d : Option ℕ) → first_of a (first_of b (first_of c d)) ≡ first_of (first_of a (first_of b c)) d
-last_row none none c d = refl
-last_row none (some n) c d = refl
-last_row (some n) b c d = refl
+last_row None None c d = refl
+last_row None (Some n) c d = refl
+last_row (Some n) b c d = refl
 
 module _ (x : Scan) (ok : Bool) (now : Time) where
   then_clock : check_moment x ok now ≡ first_of (check_but_clock x ok now) (row 5 (valid_running x.ticking.clock x.ticking.rate))
   unfolding check_moment check_but_clock check_scan in_order
   then_clock = last_row (row 1 (in_range now)) (row 3 ok) (row 4 (valid_scan x)) (row 5 (valid_running x.ticking.clock x.ticking.rate))
 
-  pub but_clock_refused : {check : Check} → refused check ≡ check_but_clock x ok now → {why : Refusal} → check ≡ Check.Refused why → refused check ≡ check_moment x ok now
-  but_clock_refused e h = sym (then_clock ∙ rw (← e, h))
+  pub but_clock_refused : {n : ℕ} → check_but_clock x ok now ≡ Some n → check_moment x ok now ≡ Some n
+  but_clock_refused h = then_clock ∙ rw h
 
-  module _ (passed : check_but_clock x ok now ≡ none) where
+  module _ (passed : check_but_clock x ok now ≡ None) where
     pub but_clock_passed : row 5 (valid_running x.ticking.clock x.ticking.rate) ≡ check_moment x ok now
     but_clock_passed = sym (then_clock ∙ rw passed)
 
@@ -255,9 +261,9 @@ pub record Called (x : Scan) (ok : Bool) (now : Time) (ram icons : List ℕ) : T
   pub memory : Lent ram icons
   pub in_range_lem : in_range now ≡ true
   pub settings_ok_lem : ok ≡ true
-  pub scan_passed : check_scan x ≡ none
+  pub scan_passed : check_scan x ≡ None
 
-pub called : (x : Scan) (ok : Bool) (now : Time) (ram icons : List ℕ) → check_lent x ok now ram icons ≡ none → Called x ok now ram icons
+pub called : (x : Scan) (ok : Bool) (now : Time) (ram icons : List ℕ) → check_lent x ok now ram icons ≡ None → Called x ok now ram icons
 unfolding check_lent
 called x ok now ram icons h =
     let p = in_order_passed _ _ _ _ _ h in
@@ -274,19 +280,50 @@ pub record Painted (s : Settings) (ram icons : List ℕ) (bytes : ℕ) : Type 0 
   pub image_length : bytes ≡ 6144
   pub settings_ok_lem : valid_settings s ≡ true
 
-pub painted_checks : (s : Settings) (ram icons : List ℕ) (bytes : ℕ) → check_image s ram icons bytes ≡ none → Painted s ram icons bytes
+pub painted_checks : (s : Settings) (ram icons : List ℕ) (bytes : ℕ) → check_image s ram icons bytes ≡ None → Painted s ram icons bytes
 unfolding check_image image_ok
 painted_checks s ram icons bytes h =
     let p = in_order_passed _ _ _ _ _ h in
     record { memory = lent ram icons (row_passed 2 _ p.0); image_length = eqb-true _ _ (row_passed 8 _ p.1.0); settings_ok_lem = row_passed 3 _ p.1.1.1.0 }
 
--- what a check that was opened by `let Check::Passed = check else` says of its definition, where it passed and where not
-module _ {check : Check} {c : Option ℕ} (e : refused check ≡ c) where
-  pub passes : check ≡ Check.Passed → c ≡ none
-  passes h = sym e ∙ rw h
+-- what a check that was opened by `?` says of its definition, where it passed and where not
+module _ {A : Type 0} {check : Result A Refusal} {c : Option ℕ} (e : refused check ≡ c) where
+  pub passes : {a : A} → check ≡ Ok a → c ≡ None
+  passes h = refused_at_ok number check e h
 
-  pub passed_answer : {A : Type 0} (new given : A) → check ≡ Check.Passed → (none, new) ≡ changed c new given
+  pub passed_answer : {B : Type 0} {a : A} (new given : B) → check ≡ Ok a → (None, new) ≡ changed c new given
   passed_answer new given h = rw (passes h)
 
-  pub refused_answer : {A : Type 0} {why : Refusal} (new given : A) → check ≡ Check.Refused why → (refused check, given) ≡ changed c new given
-  refused_answer new given h = rw (← e, h)
+  pub refused_answer : {B : Type 0} {why : Refusal} (new given : B) → check ≡ Err why → (Some (number why), given) ≡ changed c new given
+  refused_answer new given h = rw (refused_at_err number check e h)
+
+-- what a call knows past `check_moment(..)?` and past `check_lent(..)?`
+module _ {A : Type 0} {check : Result A Refusal} (x : Scan) (ok : Bool) (now : Time) (e : refused check ≡ check_moment x ok now) {a : A} (h : check ≡ Ok a) where
+  pub timed_range : in_range now ≡ true
+  timed_range = (timed x ok now (passes e h)).in_range_lem
+
+  pub timed_settings : ok ≡ true
+  timed_settings = (timed x ok now (passes e h)).settings_ok_lem
+
+  pub timed_scan : check_scan x ≡ None
+  timed_scan = (timed x ok now (passes e h)).scan_passed
+
+module _ {A : Type 0} {check : Result A Refusal} (x : Scan) (ok : Bool) (now : Time) (ram icons : List ℕ) (e : refused check ≡ check_lent x ok now ram icons) {a : A} (h : check ≡ Ok a) where
+  pub lent_range : in_range now ≡ true
+  lent_range = (called x ok now ram icons (passes e h)).in_range_lem
+
+  pub lent_settings : ok ≡ true
+  lent_settings = (called x ok now ram icons (passes e h)).settings_ok_lem
+
+  pub lent_scan : check_scan x ≡ None
+  lent_scan = (called x ok now ram icons (passes e h)).scan_passed
+
+  pub lent_ram : length ram ≡ 4096
+  lent_ram = (called x ok now ram icons (passes e h)).memory.ram_length
+
+  pub lent_icons : length icons ≡ 256
+  lent_icons = (called x ok now ram icons (passes e h)).memory.icons_length
+
+pub ruleset timed_facts = (timed_range, timed_settings, timed_scan)
+
+pub ruleset lent_facts = (lent_range, lent_settings, lent_scan, lent_ram, lent_icons)

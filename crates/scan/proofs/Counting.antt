@@ -3,6 +3,7 @@
 use Rattle.std.proofs.Common.{◌≡◌, ℕ, zero, suc, ◌+◌, ◌<◌, ◌≤◌, Bool, true, false, cond, List, sym, refl, ap, ◌∙◌, le_trans, suc-add, zero-add, add-one, arith, le-leb, leb-true}
 use mathlib.Core.Bool.{false≢true}
 use borrow.Author.Tests.{lt-leb}
+use Rattle.std.specs.Prelude.{Option, Some, None}
 use Rattle.clock.specs.declared.time.Time.{Time}
 use Rattle.clock.specs.declared.rate.Rate.{Rate}
 use Rattle.clock.specs.Edges.{moved_by, started}
@@ -16,28 +17,28 @@ use Rattle.scan.specs.Latch.{shown}
 use Rattle.scan.specs.Quantum.{ticked, ticked_to, quantum}
 use Rattle.scan.proofs.Checks.{Valid, ValidSettings}
 use Rattle.scan.proofs.ValidQuanta.{quantum_valid}
+use Rattle.clock.specs.declared.edges.Clock.{Clock}
 use Rattle.scan.specs.declared.settings.Settings.{Settings}
 use Rattle.scan.specs.declared.state.Scan.{Scan}
-use Rattle.scan.specs.declared.state.ScanClock.{ScanClock}
 
 -- the time of a clock's last edge, in fraction units; past every moment where it is stopped
-last_edge : ℕ → ScanClock → ℕ
-last_edge n (ScanClock.Running c) = raw c.at
-last_edge n ScanClock.Stopped = n + 1
+last_edge : ℕ → Option Clock → ℕ
+last_edge n (Some c) = raw c.at
+last_edge n None = n + 1
 
 -- with the last edge later than now, none is due
-not_due : (k : ScanClock) (r : Rate) → is_lcd r ≡ true → (now : Time) → raw now < last_edge (raw now) k → due_at k r now ≡ false
+not_due : (k : Option Clock) (r : Rate) → is_lcd r ≡ true → (now : Time) → raw now < last_edge (raw now) k → due_at k r now ≡ false
 unfolding due_at last_edge
-not_due ScanClock.Stopped r l now h = refl
-not_due (ScanClock.Running c) r l now h = lt-leb _ _ (le_trans (omega arith) (edge_later c r (lcd_bounds r l)))
+not_due None r l now h = refl
+not_due (Some c) r l now h = lt-leb _ _ (le_trans (omega arith) (edge_later c r (lcd_bounds r l)))
 
 -- a due tick moves the last edge on
-tick_later : (k : ScanClock) (r new : Rate) → is_lcd r ≡ true → (now : Time) → due_at k r now ≡ true → last_edge (raw now) k + 1 ≤ last_edge (raw now) (ticked k r new)
+tick_later : (k : Option Clock) (r new : Rate) → is_lcd r ≡ true → (now : Time) → due_at k r now ≡ true → last_edge (raw now) k + 1 ≤ last_edge (raw now) (ticked k r new)
 unfolding due_at last_edge ticked
-tick_later ScanClock.Stopped r new l now d = absurd (false≢true d)
-tick_later (ScanClock.Running c) r new l now d = go (same_rate r new)
+tick_later None r new l now d = absurd (false≢true d)
+tick_later (Some c) r new l now d = go (same_rate r new)
   where
-    go : (t : Bool) → raw c.at + 1 ≤ last_edge (raw now) (cond t (ScanClock.Running (moved_by c r 1)) (ScanClock.Running (started (moved_by c r 1).at new)))
+    go : (t : Bool) → raw c.at + 1 ≤ last_edge (raw now) (cond t (Some (moved_by c r 1)) (Some (started (moved_by c r 1).at new)))
     go true = edge_later c r (lcd_bounds r l)
     go false = rw (started_at (moved_by c r 1).at new) (edge_later c r (lcd_bounds r l))
 
@@ -46,9 +47,9 @@ due_later : (x : Scan) (t u : Time) → raw t ≤ raw u → due x t ≡ true →
 unfolding due due_at
 due_later x t u h d = at_clock x.ticking.clock x.ticking.rate d
   where
-    at_clock : (k : ScanClock) (r : Rate) → due_at k r t ≡ true → due_at k r u ≡ true
-    at_clock (ScanClock.Running c) r e = le-leb _ _ (le_trans (leb-true _ _ e) h)
-    at_clock ScanClock.Stopped r e = absurd (false≢true e)
+    at_clock : (k : Option Clock) (r : Rate) → due_at k r t ≡ true → due_at k r u ≡ true
+    at_clock (Some c) r e = le-leb _ _ (le_trans (leb-true _ _ e) h)
+    at_clock None r e = absurd (false≢true e)
 
 -- with no edge due, nothing is counted
 pub count_none : (k : ℕ) (x : Scan) (s : Settings) (now : Time) → due x now ≡ false → count_for k x s now ≡ x

@@ -1,6 +1,6 @@
 -- The drive: that a counted scan passes, what the call reads of the scan, and the bounds of the common.
 use Rattle.std.proofs.Common.{◌≡◌, ℕ, ◌<◌, ◌≤◌, Bool, true, false, cond, eqb, List, refl, ap, ◌∙◌, arith}
-use mathlib.Core.Option.{none}
+use Rattle.std.specs.Prelude.{Some, None}
 use Rattle.clock.specs.declared.time.Time.{Time}
 use Rattle.clock.specs.Time.{in_range}
 use Rattle.voltage.specs.declared.LcdVoltages.{LcdVoltages}
@@ -8,7 +8,6 @@ use Rattle.voltage.specs.Voltage.{voltages}
 use Rattle.scan.specs.declared.settings.Settings.{Settings}
 use Rattle.scan.specs.declared.state.Scan.{Scan}
 use Rattle.scan.specs.declared.drive.Conditions.{Conditions}
-use Rattle.scan.specs.declared.drive.Common.{Common}
 use Rattle.scan.specs.declared.drive.LcdDrive.{LcdDrive}
 use Rattle.scan.specs.Check.{valid_settings, check_scan, check_lent}
 use Rattle.scan.specs.Count.{count_to}
@@ -20,7 +19,7 @@ use Rattle.scan.proofs.Latches.{segment_bit, cond_le}
 use Rattle.voltage.specs.declared.Settings as analog
 
 -- the scan counted to a moment passes its check
-pub counted_passes : (x : Scan) (s : Settings) (now : Time) → in_range now ≡ true → valid_settings s ≡ true → check_scan x ≡ none → check_scan (count_to x s now) ≡ none
+pub counted_passes : (x : Scan) (s : Settings) (now : Time) → in_range now ≡ true → valid_settings s ≡ true → check_scan x ≡ None → check_scan (count_to x s now) ≡ None
 counted_passes x s now i v p = valid_check (count_to x s now) (count_to_valid s (valid_settings_lem s v) now i x (valid_scan_lem x p))
 
 pub common_of_le : (x : Scan) → common_of x ≤ 128
@@ -49,7 +48,7 @@ module _ (x y : Scan) (s : Settings) (c : Conditions) (now : Time) (ram icons : 
   unfolding drive_at drive_of
   drive_alike v =
       ap (λ (k : LcdDrive). cond (driven c) k (undriven c v))
-      (λ i. record { common = Common.Selected (d.common i); segments = d.segments i; inverted = d.inverted i; voltages = v; grounded = false })
+      (λ i. record { common = Some (d.common i); segments = d.segments i; inverted = d.inverted i; voltages = v; grounded = false })
 
   pub frame_alike : frame_at x s c now ≡ frame_at y s c now
   unfolding frame_at

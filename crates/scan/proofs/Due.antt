@@ -1,7 +1,7 @@
 -- The next edge of a clock, from its fields.
 use Rattle.std.proofs.Common.{◌≡◌, ℕ, ◌+◌, ◌-◌, ◌*◌, ◌/◌, ◌%◌, ◌^◌, ◌<◌, Bool, true, false, cond, ◌&&◌, eqb, leb, sym, refl, ap, ◌∙◌, mod-lt, div-lt_iff_lt-mul, div-add-mod', arith, ltb-true, eqb-true, leb-false, leb-true}
-use mathlib.Core.Option.{none}
 use lib.Arith.{digits_div}
+use Rattle.std.specs.Prelude.{Option, Some, None}
 use Rattle.checks.proofs.Tests.{both}
 use Rattle.clock.specs.declared.time.Time.{Time}
 use Rattle.clock.specs.declared.rate.Rate.{Rate}
@@ -17,7 +17,6 @@ use Rattle.clock.proofs.Laws.{moved_at}
 use Rattle.clock.proofs.Rates.{lcd_bounds}
 use Rattle.scan.specs.declared.settings.Settings.{Settings}
 use Rattle.scan.specs.declared.state.Scan.{Scan}
-use Rattle.scan.specs.declared.state.ScanClock.{ScanClock}
 use Rattle.scan.specs.Check.{valid_running, check_scan}
 use Rattle.scan.specs.Count.{due_at, due, count_to}
 use Rattle.scan.proofs.Checks.{valid_scan_lem}
@@ -84,21 +83,21 @@ module _ (c : Clock) (r : Rate) (lcd : is_lcd r ≡ true) (v : valid_clock c r �
   due_by now span next es en = ap (λ (n : ℕ). leb n (raw now)) (en ∙ ap (λ (k : ℕ). raw c.at + k) es ∙ sym next_edge)
 
 -- the clock of a scan that passes
-module _ (x : Scan) (passed : check_scan x ≡ none) where
+module _ (x : Scan) (passed : check_scan x ≡ None) where
   pub scan_lcd : is_lcd x.ticking.rate ≡ true
   scan_lcd = (valid_scan_lem x passed).lcd
 
-  pub clock_valid : {c : Clock} → x.ticking.clock ≡ ScanClock.Running c → valid_clock c x.ticking.rate ≡ true
+  pub clock_valid : {c : Clock} → x.ticking.clock ≡ Some c → valid_clock c x.ticking.rate ≡ true
   unfolding valid_running
-  clock_valid e = ap (λ (k : ScanClock). valid_running k x.ticking.rate) (sym e) ∙ (valid_scan_lem x passed).clock_ok
+  clock_valid e = ap (λ (k : Option Clock). valid_running k x.ticking.rate) (sym e) ∙ (valid_scan_lem x passed).clock_ok
 
-pub due_running : (x : Scan) (now : Time) {c : Clock} → x.ticking.clock ≡ ScanClock.Running c → leb (raw (moved_by c x.ticking.rate 1).at) (raw now) ≡ due x now
+pub due_running : (x : Scan) (now : Time) {c : Clock} → x.ticking.clock ≡ Some c → leb (raw (moved_by c x.ticking.rate 1).at) (raw now) ≡ due x now
 unfolding due due_at
-due_running x now e = ap (λ (k : ScanClock). due_at k x.ticking.rate now) (sym e)
+due_running x now e = ap (λ (k : Option Clock). due_at k x.ticking.rate now) (sym e)
 
-pub due_stopped : (x : Scan) (now : Time) → x.ticking.clock ≡ ScanClock.Stopped → false ≡ due x now
+pub due_stopped : (x : Scan) (now : Time) → x.ticking.clock ≡ None → false ≡ due x now
 unfolding due due_at
-due_stopped x now e = ap (λ (k : ScanClock). due_at k x.ticking.rate now) (sym e)
+due_stopped x now e = ap (λ (k : Option Clock). due_at k x.ticking.rate now) (sym e)
 
 -- with no edge due the scan is counted as it stands
 pub counted_none : (x : Scan) (s : Settings) (now : Time) → due x now ≡ false → x ≡ count_to x s now

@@ -1,6 +1,5 @@
 -- Laws of the image: levels, what a glass row shows, the image by row and by byte, what the call leaves, and the registers it reads.
-use Rattle.std.proofs.Common.{◌≡◌, ℕ, zero, suc, ◌+◌, ◌*◌, ◌/◌, ◌%◌, ◌<◌, ◌≤◌, Bool, true, false, cond, ◌&&◌, eqb, ltb, List, length, get_or, take, drop, sym, refl, ap, ◌∙◌, div-lt_iff_lt-mul, mul-le-mul, mul-pos, mul-suc, add-one, arith, get_or-drop, get_or-take}
-use mathlib.Core.Option.{Option, none, some}
+use Rattle.std.proofs.Common.{◌≡◌, ℕ, zero, suc, ◌+◌, ◌*◌, ◌/◌, ◌%◌, ◌<◌, ◌≤◌, Bool, true, false, cond, ◌&&◌, eqb, ltb, Option, Some, None, List, length, get_or, take, drop, sym, refl, ap, ◌∙◌, div-lt_iff_lt-mul, mul-le-mul, mul-pos, mul-suc, add-one, arith, get_or-drop, get_or-take}
 use Rattle.checks.specs.Checks.{unless_refused}
 use Rattle.scan.specs.Check.{check_image}
 use Rattle.scan.specs.Planes.{row_bits, shown_shade}
@@ -117,8 +116,8 @@ module _ (s : Settings) (driven : Bool) (ram : List ℕ) where
   length_rendered icons before = go (check_image s ram icons (length before)) refl
     where
       go : (c : Option ℕ) → check_image s ram icons (length before) ≡ c → length (unless_refused c (image s driven ram) before) ≡ length before
-      go none h = length_image ∙ sym (painted_checks s ram icons (length before) h).image_length
-      go (some n) h = refl
+      go None h = length_image ∙ sym (painted_checks s ram icons (length before) h).image_length
+      go (Some n) h = refl
 
 -- s, but for what the image does not read: icons on, line inversion and the oscillator's frequency are those of t
 abbrev pub image_settings : Settings → Settings → Settings

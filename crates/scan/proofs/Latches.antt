@@ -1,13 +1,11 @@
 -- The latch: what its words hold, what it depends on, and that keeping it or writing elsewhere changes nothing that is shown.
-use Rattle.std.proofs.Common.{◌≡◌, ℕ, zero, suc, ◌+◌, ◌-◌, ◌*◌, ◌/◌, ◌%◌, ◌^◌, ◌<◌, ◌≤◌, Bool, true, false, cond, not, ◌&&◌, ◌||◌, eqb, ltb, List, length, get_or, take, drop, set, sym, refl, ap, ◌∙◌, ⊎_elim, add-zero, pow-suc, one-add, arith, length-drop, length-take-le, drop-set-lt, shr-shr, ltb-false, ltb-true, ne_eqb, eqb-true}
+use Rattle.std.proofs.Common.{◌≡◌, ℕ, zero, suc, ◌+◌, ◌-◌, ◌*◌, ◌/◌, ◌%◌, ◌^◌, ◌<◌, ◌≤◌, Bool, true, false, cond, not, ◌&&◌, ◌||◌, eqb, ltb, Option, Some, None, List, length, get_or, take, drop, set, sym, refl, ap, ◌∙◌, ⊎_elim, add-zero, pow-suc, one-add, arith, length-drop, length-take-le, drop-set-lt, shr-shr, ltb-false, ltb-true, ne_eqb, eqb-true}
 use mathlib.Core.Bool.{or-true}
-use mathlib.Core.Option.{none}
 use lib.Seq.{drop-set-add, take-set-le}
 use borrow.Author.Tests.{eqb-false}
 use Rattle.checks.proofs.Tests.{either}
 use Rattle.scan.specs.declared.settings.Settings.{Settings}
 use Rattle.scan.specs.declared.state.Scan.{Scan}
-use Rattle.scan.specs.declared.latch.DataPage.{DataPage}
 use Rattle.scan.specs.Check.{frc_count_ok, valid_scan, check_scan}
 use Rattle.scan.specs.Planes.{row_bits, AreBits, shown_shade}
 use Rattle.scan.specs.Segments.{active_shades, row_active, bits_at, row_words}
@@ -178,7 +176,7 @@ module _ (x : Scan) (s : Settings) (ram icons : List ℕ) where
   shown_by_row ram' icons' h = λ i. cond x.latch.latched x.latch.segments (words (λ (k : ℕ). shade_active x s (h k i)))
 
   -- a data byte outside the shown row's page changes nothing that is shown
-  pub data_outside : (page at v : ℕ) → (page ≡ 16 → ⊥) → at / 256 ≡ page % 16 → affects (DataPage.Page page) (latched_row x) ≡ false → shown x s (set ram at v) icons ≡ shown x s ram icons
+  pub data_outside : (page at v : ℕ) → (page ≡ 16 → ⊥) → at / 256 ≡ page % 16 → affects (Some page) (latched_row x) ≡ false → shown x s (set ram at v) icons ≡ shown x s ram icons
   unfolding affects shade_at
   data_outside page at v ne e h = shown_by_row (set ram at v) icons (go (eqb (latched_row x) 128) (eqb (latched_row x / 8) (page % 16)) refl (simp (ne_eqb page 16 ne) at h))
     where
@@ -188,12 +186,12 @@ module _ (x : Scan) (s : Settings) (ram icons : List ℕ) where
       go true here q n k = refl
       go false here q n k = ap (λ (part : List ℕ). shade_of s part (latched_row x % 8) k) (page_same ram at v (latched_row x / 8) (λ r. eqb-false (latched_row x / 8) (page % 16) (q ∙ n) (sym r ∙ e)))
 
-  pub icon_outside : (at v : ℕ) → affects (DataPage.Page 16) (latched_row x) ≡ false → shown x s ram (set icons at v) ≡ shown x s ram icons
+  pub icon_outside : (at v : ℕ) → affects (Some 16) (latched_row x) ≡ false → shown x s ram (set icons at v) ≡ shown x s ram icons
   unfolding affects shade_at
   icon_outside at v h = shown_by_row ram (set icons at v) (λ k. simp h)
 
   -- where the latch is retained, no later memory or setting changes what is shown
-  pub retained_holds : (page : DataPage) (s' : Settings) (ram' icons' : List ℕ) → affects page (latched_row x) ≡ true → shown (retained x s page ram icons) s' ram' icons' ≡ shown x s ram icons
+  pub retained_holds : (page : Option ℕ) (s' : Settings) (ram' icons' : List ℕ) → affects page (latched_row x) ≡ true → shown (retained x s page ram icons) s' ram' icons' ≡ shown x s ram icons
   unfolding shown retained latch_retained with_latch
   retained_holds page s' ram' icons' h = rw h (go x.latch.latched refl)
     where
@@ -201,30 +199,30 @@ module _ (x : Scan) (s : Settings) (ram icons : List ℕ) where
       go true k = simp k
       go false k = refl
 
-  pub unaffected : (page : DataPage) → affects page (latched_row x) ≡ false → retained x s page ram icons ≡ x
+  pub unaffected : (page : Option ℕ) → affects page (latched_row x) ≡ false → retained x s page ram icons ≡ x
   unfolding retained
   unaffected page h = simp (h, or-true)
 
-  pub retained_is : (page : DataPage) → x.latch.latched ≡ false → affects page (latched_row x) ≡ true → retained x s page ram icons ≡ latch_retained x s ram icons
+  pub retained_is : (page : Option ℕ) → x.latch.latched ≡ false → affects page (latched_row x) ≡ true → retained x s page ram icons ≡ latch_retained x s ram icons
   unfolding retained
   retained_is page l h = simp (l, h)
 
   -- with the latch retained for a change, the change does not alter what is shown
-  change_retained : (page : DataPage) (ram' icons' : List ℕ) → (affects page (latched_row x) ≡ false → shown x s ram' icons' ≡ shown x s ram icons) → shown (retained x s page ram icons) s ram' icons' ≡ shown x s ram icons
+  change_retained : (page : Option ℕ) (ram' icons' : List ℕ) → (affects page (latched_row x) ≡ false → shown x s ram' icons' ≡ shown x s ram icons) → shown (retained x s page ram icons) s ram' icons' ≡ shown x s ram icons
   change_retained page ram' icons' outside = go (affects page (latched_row x)) refl
     where
       go : (a : Bool) → affects page (latched_row x) ≡ a → shown (retained x s page ram icons) s ram' icons' ≡ shown x s ram icons
       go true h = retained_holds page s ram' icons' h
       go false h = rw (unaffected page h) (outside h)
 
-  pub retained_shown : (page : DataPage) → shown (retained x s page ram icons) s ram icons ≡ shown x s ram icons
+  pub retained_shown : (page : Option ℕ) → shown (retained x s page ram icons) s ram icons ≡ shown x s ram icons
   retained_shown page = change_retained page ram icons (λ h. refl)
 
-  pub data_retained : (page at v : ℕ) → (page ≡ 16 → ⊥) → at / 256 ≡ page % 16 → shown (retained x s (DataPage.Page page) ram icons) s (set ram at v) icons ≡ shown x s ram icons
-  data_retained page at v ne e = change_retained (DataPage.Page page) (set ram at v) icons (data_outside page at v ne e)
+  pub data_retained : (page at v : ℕ) → (page ≡ 16 → ⊥) → at / 256 ≡ page % 16 → shown (retained x s (Some page) ram icons) s (set ram at v) icons ≡ shown x s ram icons
+  data_retained page at v ne e = change_retained (Some page) (set ram at v) icons (data_outside page at v ne e)
 
-  pub icon_retained : (at v : ℕ) → shown (retained x s (DataPage.Page 16) ram icons) s ram (set icons at v) ≡ shown x s ram icons
-  icon_retained at v = change_retained (DataPage.Page 16) ram (set icons at v) (icon_outside at v)
+  pub icon_retained : (at v : ℕ) → shown (retained x s (Some 16) ram icons) s ram (set icons at v) ≡ shown x s ram icons
+  icon_retained at v = change_retained (Some 16) ram (set icons at v) (icon_outside at v)
 
   -- a quantum latches anew: what is shown after it is the latch of present memory and settings
   pub quantum_shown : (s' : Settings) → shown (quantum x s') s ram icons ≡ present_latch (quantum x s') s ram icons
@@ -232,7 +230,7 @@ module _ (x : Scan) (s : Settings) (ram icons : List ℕ) where
   quantum_shown s' = refl
 
   -- keeping the latch leaves the counters, and so the checks of the scan
-  pub retained_check : (page : DataPage) → check_scan (retained x s page ram icons) ≡ check_scan x
+  pub retained_check : (page : Option ℕ) → check_scan (retained x s page ram icons) ≡ check_scan x
   unfolding retained latch_retained with_latch check_scan valid_scan
   retained_check page = go (x.latch.latched || not (affects page (latched_row x)))
     where
@@ -241,7 +239,7 @@ module _ (x : Scan) (s : Settings) (ram icons : List ℕ) where
       go false = refl
 
 -- a scan that passes has a phase that the palette holds
-pub phase_lt : (x : Scan) → check_scan x ≡ none → x.frc < 4
+pub phase_lt : (x : Scan) → check_scan x ≡ None → x.frc < 4
 unfolding frc_count_ok
 phase_lt x h =
     let v = valid_scan_lem x h in

@@ -1,5 +1,5 @@
 -- The planes of a row: eight segments of both by sums of shifted digits, words of them, and the activity picked by them.
-use Rattle.std.proofs.Common.{◌≡◌, ℕ, zero, suc, ◌+◌, ◌-◌, ◌*◌, ◌/◌, ◌%◌, ◌^◌, ◌<◌, ◌≤◌, Bool, true, false, cond, eqb, List, get_or, sym, refl, ap, ◌∙◌, lt_of_lt_of_le, add-zero, suc-add, pow-suc, zero-add, arith, pow_mono}
+use Rattle.std.proofs.Common.{◌≡◌, ℕ, zero, suc, ◌+◌, ◌-◌, ◌*◌, ◌/◌, ◌%◌, ◌^◌, ◌<◌, ◌≤◌, Bool, true, false, cond, eqb, List, get_or, sym, refl, ap, ◌∙◌, lt_of_lt_of_le, add-zero, add_assoc, suc-add, pow-suc, zero-add, arith, pow_mono}
 use lib.Arith.{digits_div, digits_mod}
 use lib.Bits.{bit_and, bit_xor, and_le_l, and_block, xor_block}
 use Rattle.scan.specs.Planes.{AreBits, in_high, in_low, eight_from, planes_from}
@@ -46,7 +46,7 @@ module _ (b : ℕ → ℕ) (ok : (k : ℕ) → b k < 2) where
   digit'_le c = omega (arith, ok (2 * c), ok (2 * c + 1), ok (2 * c + 8), ok (2 * c + 9))
 
   abbrev eight_at : ℕ → ℕ
-  eight_at k = b k + b (k + 1) * 256 + (b (k + 2) + b (k + 3) * 256) * 65536 + (b (k + 4) + b (k + 5) * 256 + (b (k + 6) + b (k + 7) * 256) * 65536) * 4294967296
+  eight_at k = b k + b (k + 1) * 256 + b (k + 2) * 65536 + b (k + 3) * 16777216 + b (k + 4) * 4294967296 + b (k + 5) * 1099511627776 + b (k + 6) * 281474976710656 + b (k + 7) * 72057594037927936
 
   abbrev plane : ℕ → ℕ
   plane k = b k + 2 * b (k + 2) + 4 * b (k + 4) + 8 * b (k + 6) + 16 * b (k + 8) + 32 * b (k + 10) + 64 * b (k + 12) + 128 * b (k + 14)
@@ -199,18 +199,7 @@ module _ (bits : List ℕ) (ok : AreBits bits) where
   low_is reversed segment place e = bit_is _ (ok _) ∙ ap (λ (k : ℕ). get_or bits k 0) e
 
   eights : (at k : ℕ) → eight_from bits (at + k) ≡ eight_at (λ (j : ℕ). get_or bits (at + j) 0) (λ j. ok (at + j)) k
-  eights at k =
-      let e1 : at + k + 1 ≡ at + (k + 1) = omega arith in
-      let e2 : at + k + 2 ≡ at + (k + 2) = omega arith in
-      let e3 : at + k + 2 + 1 ≡ at + (k + 3) = omega arith in
-      let e4 : at + k + 4 ≡ at + (k + 4) = omega arith in
-      let e5 : at + k + 4 + 1 ≡ at + (k + 5) = omega arith in
-      let e6 : at + k + 4 + 2 ≡ at + (k + 6) = omega arith in
-      let e7 : at + k + 4 + 2 + 1 ≡ at + (k + 7) = omega arith in
-      λ i. get_or bits (at + k) 0 + get_or bits (e1 i) 0 * 256 + (get_or bits (e2 i) 0 + get_or bits (e3 i) 0 * 256) * 65536 + (get_or bits (e4 i) 0 + get_or bits (e5 i) 0 * 256 + (get_or bits (e6 i) 0 + get_or bits (e7 i) 0 * 256) * 65536) * 4294967296
-
-  pub eight_le : (at : ℕ) → eight_from bits at ≤ 72340172838076673
-  eight_le at = omega (arith, ok at, ok (at + 1), ok (at + 2), ok (at + 2 + 1), ok (at + 4), ok (at + 4 + 1), ok (at + 4 + 2), ok (at + 4 + 2 + 1))
+  eights at k = simp add_assoc
 
   -- eight segments of both planes, as the code packs them
   pub planes_ahead : (s : ℕ) (y : ℕ) → y ≡ eight_from bits (2 * s) + eight_from bits (2 * s + 8) * 16 → (y + y / 32768 + (y + y / 32768) / 1073741824) % 65536 ≡ planes_from bits false s

@@ -1,13 +1,14 @@
 -- The piece rule: a piece is as many quanta at once as its limit and the edges allow, and four pieces count all.
-use Rattle.std.proofs.Common.{◌≡◌, ℕ, zero, suc, ◌+◌, ◌-◌, ◌*◌, ◌/◌, ◌^◌, ◌<◌, ◌≤◌, min, Bool, true, false, cond, not, ltb, leb, ◌⊎◌, sym, refl, ap, ◌∙◌, inl, inr, div-lt_iff_lt-mul, mul-div_cancel, add-one, arith, ltb-false, ltb-true, le-ltb, lt-ltb, eq-eqb, ne_eqb, eqb-true, le-leb, leb-false, leb-true}
+use Rattle.std.proofs.Common.{◌≡◌, ℕ, zero, suc, ◌+◌, ◌-◌, ◌*◌, ◌/◌, ◌^◌, ◌<◌, ◌≤◌, min, Bool, true, false, cond, not, ◌&&◌, eqb, ltb, leb, ◌⊎◌, sym, refl, ap, ◌∙◌, inl, inr, div-lt_iff_lt-mul, mul-div_cancel, add-one, arith, ltb-false, ltb-true, le-ltb, lt-ltb, eq-eqb, ne_eqb, eqb-true, le-leb, leb-false, leb-true}
 use mathlib.Core.Bool.{false≢true}
-use mathlib.Core.Option.{none}
 use native.Mathlib.Nat.{div_self, div-eq_of_lt, min-eq_left, min-eq_right}
+use Rattle.std.specs.Bool.{beq}
+use Rattle.std.specs.Prelude.{Option, Some, None, Result, Ok, Err}
 use Rattle.clock.specs.declared.time.Time.{Time}
 use Rattle.clock.specs.declared.rate.Rate.{Rate}
 use Rattle.clock.specs.declared.edges.Clock.{Clock}
 use Rattle.checks.proofs.Tests.{same, both}
-use Rattle.clock.specs.Check.{valid_clock}
+use Rattle.clock.specs.Check.{number as number_of, valid_clock, check_clock}
 use Rattle.clock.specs.Edges.{answered_pass, moved_by, edges_to, pass_edges}
 use Rattle.clock.specs.Rate.{is_lcd}
 use Rattle.clock.specs.Time.{raw, in_range}
@@ -24,13 +25,12 @@ use Rattle.scan.specs.State.{rows}
 use Rattle.scan.proofs.Checks.{Valid, ValidSettings, valid_lcd, check_by}
 use Rattle.scan.proofs.Counting.{count_valid, count_on_lem}
 use Rattle.scan.proofs.Numbers.{beq_true, beq_refl, row_left}
-use Rattle.scan.proofs.Quanta.{RowSettled, Ok, rate_after, ticking_in, whole, ticked_once, ticked_ticked, rate_stays_lem, quanta_whole}
+use Rattle.scan.proofs.Quanta.{RowSettled, InForce, rate_after, ticking_in, whole, ticked_once, ticked_ticked, rate_stays_lem, quanta_whole}
 use Rattle.clock.specs.declared.check.Refusal.{Refusal}
 use Rattle.clock.specs.declared.edges.Passed.{Passed}
 use Rattle.clock.proofs.Answers.{pass_passed, pass_valid, pass_refused}
 use Rattle.scan.specs.declared.settings.Settings.{Settings}
 use Rattle.scan.specs.declared.state.Scan.{Scan}
-use Rattle.scan.specs.declared.state.ScanClock.{ScanClock}
 use Rattle.scan.specs.declared.settings.Frame.{Frame}
 
 -- the comparison of what two frame ends took
@@ -50,6 +50,18 @@ same_frame_lem f g h =
       start_line = eqb-true f.start_line g.start_line b.1 i;
       frc_count = eqb-true f.frc_count g.frc_count a.1 i;
     }
+
+-- and the equality that the derive gives
+grouped : (a b c d e f : Bool) → a && (b && (c && (d && (e && f)))) ≡ a && b && c && d && e && f
+grouped false b c d e f = refl
+grouped true false c d e f = refl
+grouped true true false d e f = refl
+grouped true true true false e f = refl
+grouped true true true true e f = refl
+
+pub frame_eq : (f g : Frame) → eqb f.duty g.duty && (beq f.icon g.icon && (eqb f.initial_com g.initial_com && (beq f.common_reverse g.common_reverse && (eqb f.start_line g.start_line && eqb f.frc_count g.frc_count)))) ≡ same_frame f g
+unfolding same_frame
+frame_eq f g = grouped (eqb f.duty g.duty) (beq f.icon g.icon) (eqb f.initial_com g.initial_com) (beq f.common_reverse g.common_reverse) (eqb f.start_line g.start_line) (eqb f.frc_count g.frc_count)
 
 frame_refl : (f : Frame) → same_frame f f ≡ true
 unfolding same_frame
@@ -102,11 +114,11 @@ module _ (x : Scan) (s : Settings) (v : Valid x) where
   pwm_above = omega (arith, v.step_below)
 
   -- up to the limit each quantum begins with no setting changed
-  pub within : (all m : ℕ) → m < limit_with x s all → Ok x s m
+  pub within : (all m : ℕ) → m < limit_with x s all → InForce x s m
   unfolding limit_with
   within all m h = go (rate_same x s) refl (row_same x s) refl (frame_same x s) refl h
     where
-      go : (a : Bool) → rate_same x s ≡ a → (b : Bool) → row_same x s ≡ b → (c : Bool) → frame_same x s ≡ c → m < cond (not a) 1 (cond (not b) (x.pwm - x.step) (cond (not c) ((rows x - x.row) * x.pwm - x.step) all)) → Ok x s m
+      go : (a : Bool) → rate_same x s ≡ a → (b : Bool) → row_same x s ≡ b → (c : Bool) → frame_same x s ≡ c → m < cond (not a) 1 (cond (not b) (x.pwm - x.step) (cond (not c) ((rows x - x.row) * x.pwm - x.step) all)) → InForce x s m
       go false p b q c r l =
           let z : ended_rows x m ≡ 0 = div-eq_of_lt (omega (arith, v.step_below)) in
           record { row_ok = inl z; frame_ok = inl (div-eq_of_lt (omega (arith, v.row_below))); rate_ok = inl (omega arith) }
@@ -161,21 +173,21 @@ edge_due c r l v now n =
     (λ h. lt-ltb n (edges_to c r now) (omega (arith, counts_edge c r b f now (n + 1) (leb-true _ _ h))))
     (λ h. le-leb _ _ (edge_counted c r b f now (n + 1) (omega arith) (omega (arith, ltb-true n (edges_to c r now) h))))
 
-due_now : (k : ScanClock) (r : Rate) → is_lcd r ≡ true → valid_running k r ≡ true → (now : Time) → due_at k r now ≡ ltb 0 (edges_in k r now)
+due_now : (k : Option Clock) (r : Rate) → is_lcd r ≡ true → valid_running k r ≡ true → (now : Time) → due_at k r now ≡ ltb 0 (edges_in k r now)
 unfolding due_at edges_in valid_running
-due_now (ScanClock.Running c) r l v now = edge_due c r l v now 0
-due_now ScanClock.Stopped r l v now = refl
+due_now (Some c) r l v now = edge_due c r l v now 0
+due_now None r l v now = refl
 
-due_then : (k : ScanClock) (r : Rate) → is_lcd r ≡ true → valid_running k r ≡ true → (now : Time) (n : ℕ) → due_at (ticked_by n k r r) r now ≡ ltb n (edges_in k r now)
+due_then : (k : Option Clock) (r : Rate) → is_lcd r ≡ true → valid_running k r ≡ true → (now : Time) (n : ℕ) → due_at (ticked_by n k r r) r now ≡ ltb n (edges_in k r now)
 unfolding due_at ticked_by edges_in valid_running
-due_then (ScanClock.Running c) r l v now n = simp (same_refl r, moved_moved c r n 1) (edge_due c r l v now n)
-due_then ScanClock.Stopped r l v now n = sym (le-ltb n 0 (omega arith))
+due_then (Some c) r l v now n = simp (same_refl r, moved_moved c r n 1) (edge_due c r l v now n)
+due_then None r l v now n = sym (le-ltb n 0 (omega arith))
 
 -- the edges up to now are no more than the fraction units up to now
-edges_few : (k : ScanClock) (r : Rate) → is_lcd r ≡ true → valid_running k r ≡ true → (now : Time) → edges_in k r now ≤ raw now
+edges_few : (k : Option Clock) (r : Rate) → is_lcd r ≡ true → valid_running k r ≡ true → (now : Time) → edges_in k r now ≤ raw now
 unfolding edges_in valid_running
-edges_few ScanClock.Stopped r l v now = omega arith
-edges_few (ScanClock.Running c) r l v now = go (edges_to c r now) refl
+edges_few None r l v now = omega arith
+edges_few (Some c) r l v now = go (edges_to c r now) refl
   where
     go : (n : ℕ) → edges_to c r now ≡ n → n ≤ raw now
     go zero e = omega arith
@@ -183,10 +195,10 @@ edges_few (ScanClock.Running c) r l v now = go (edges_to c r now) refl
         let b = lcd_bounds r l in
         omega (arith, edges_apart c r b (suc n), edge_counted c r b (valid c r v).fraction_lt now (suc n) (omega arith) (omega arith))
 
-edges_fit : (k : ScanClock) (r : Rate) → is_lcd r ≡ true → (now : Time) → in_range now ≡ true → edges_in k r now ≤ 2 ^ 50
+edges_fit : (k : Option Clock) (r : Rate) → is_lcd r ≡ true → (now : Time) → in_range now ≡ true → edges_in k r now ≤ 2 ^ 50
 unfolding edges_in
-edges_fit ScanClock.Stopped r l now i = omega arith
-edges_fit (ScanClock.Running c) r l now i = edges_le c r (lcd_bounds r l) now i
+edges_fit None r l now i = omega arith
+edges_fit (Some c) r l now i = edges_le c r (lcd_bounds r l) now i
 
 -- the quanta that are due
 module _ (x : Scan) (s : Settings) (v : Valid x) (now : Time) where
@@ -374,46 +386,55 @@ unfolding pieces_for
 pieces_more k x s now d = rw d
 
 -- what the clock's answer p to `passed_to` with the limit l says of a scan that passes number 4
-module _ (x : Scan) (now : Time) (i : in_range now ≡ true) (ok : valid_scan x ≡ true) {c : Clock} (running : x.ticking.clock ≡ ScanClock.Running c) (l : ℕ) (p : Passed) (answer : answered_pass p ≡ pass_edges c x.ticking.rate now l) where
+module _ (x : Scan) (now : Time) (i : in_range now ≡ true) (ok : valid_scan x ≡ true) {c : Clock} (running : x.ticking.clock ≡ Some c) (l : ℕ) (p : Result Passed Refusal) (answer : answered_pass p ≡ pass_edges c x.ticking.rate now l) where
   running_is : {t : Bool} → valid_clock c x.ticking.rate ≡ t → valid_running x.ticking.clock x.ticking.rate ≡ t
   unfolding valid_running
   running_is h = rw running h
 
-  pub asked_refused : {why : Refusal} → p ≡ Passed.Refused why → valid_running x.ticking.clock x.ticking.rate ≡ false
+  pub asked_refused : {why : Refusal} → p ≡ Err why → valid_running x.ticking.clock x.ticking.rate ≡ false
   asked_refused {why} h = running_is (pass_refused c x.ticking.rate now l why (sym (ap answered_pass h) ∙ answer) i (valid_lcd x ok))
 
-  module _ {n : ℕ} {m : Clock} (given : p ≡ Passed.Edges n m) where
+  -- a refusal is number 5
+  pub asked_number : {why : Refusal} → p ≡ Err why → number_of why ≡ 5
+  unfolding pass_edges check_clock
+  asked_number {why} h =
+      let e = sym (ap answered_pass h) ∙ answer in
+      let v = pass_refused c x.ticking.rate now l why e i (valid_lcd x ok) in
+      let q = rw (i, valid_lcd x ok, v) at e in
+      cc
+
+  module _ {q : Passed} (given : p ≡ Ok q) where
     clock_valid : valid_clock c x.ticking.rate ≡ true
     clock_valid = pass_valid c x.ticking.rate now l (sym (ap answered_pass given) ∙ answer) i (valid_lcd x ok)
 
     pub asked_running : valid_running x.ticking.clock x.ticking.rate ≡ true
     asked_running = running_is clock_valid
 
-    pub asked_check : check_scan x ≡ none
+    pub asked_check : check_scan x ≡ None
     asked_check = check_by x ok asked_running
 
-    passed_is : p ≡ Passed.Edges (min (edges_to c x.ticking.rate now) l) (moved_by c x.ticking.rate (min (edges_to c x.ticking.rate now) l))
+    passed_is : p ≡ Ok (record { count = min (edges_to c x.ticking.rate now) l; clock = moved_by c x.ticking.rate (min (edges_to c x.ticking.rate now) l) })
     passed_is = pass_passed c x.ticking.rate now l p answer i (valid_lcd x ok) clock_valid
 
-    count : n ≡ min (edges_to c x.ticking.rate now) l
-    count = let q = passed_is in cc
+    count : q.count ≡ min (edges_to c x.ticking.rate now) l
+    count = let e = passed_is in cc
 
-    pub asked_count : n ≡ min (edges_in x.ticking.clock x.ticking.rate now) l
+    pub asked_count : q.count ≡ min (edges_in x.ticking.clock x.ticking.rate now) l
     unfolding edges_in
     asked_count = rw running count
 
-    pub asked_few : n ≤ 2 ^ 50
+    pub asked_few : q.count ≤ 2 ^ 50
     asked_few = omega (arith, count, edges_le c x.ticking.rate (lcd_bounds x.ticking.rate (valid_lcd x ok)) now i)
 
-    pub asked_moved : m ≡ moved_by c x.ticking.rate n
+    pub asked_moved : q.clock ≡ moved_by c x.ticking.rate q.count
     asked_moved =
-        let q = passed_is in
-        let e : m ≡ moved_by c x.ticking.rate (min (edges_to c x.ticking.rate now) l) = cc in
-        e ∙ ap (moved_by c x.ticking.rate) (sym count)
+        let e = passed_is in
+        let moved : q.clock ≡ moved_by c x.ticking.rate (min (edges_to c x.ticking.rate now) l) = cc in
+        moved ∙ ap (moved_by c x.ticking.rate) (sym count)
 
     -- the last edge passed is in range
-    pub asked_range : (n ≡ 0 → ⊥) → in_range m.at ≡ true
+    pub asked_range : (q.count ≡ 0 → ⊥) → in_range q.clock.at ≡ true
     asked_range z =
         rw asked_moved
-        (earlier_in_range (moved_by c x.ticking.rate n).at now
-        (edge_counted c x.ticking.rate (lcd_bounds x.ticking.rate (valid_lcd x ok)) (valid c x.ticking.rate clock_valid).fraction_lt now n (omega (arith, z)) (omega (arith, count))) i)
+        (earlier_in_range (moved_by c x.ticking.rate q.count).at now
+        (edge_counted c x.ticking.rate (lcd_bounds x.ticking.rate (valid_lcd x ok)) (valid c x.ticking.rate clock_valid).fraction_lt now q.count (omega (arith, z)) (omega (arith, count))) i)

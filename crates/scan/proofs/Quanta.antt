@@ -3,6 +3,7 @@
 use Rattle.std.proofs.Common.{◌≡◌, ℕ, zero, suc, ◌+◌, ◌/◌, ◌%◌, ◌<◌, ◌≤◌, Bool, true, false, cond, eqb, leb, ◌⊎◌, sym, refl, ap, ◌∙◌, inl, inr, add-zero, mod-eq_of_lt, suc-add, zero-add, add-one, arith, le-leb, leb-false, leb-true}
 use native.Mathlib.Nat.{div-eq_of_lt}
 use borrow.Author.Tests.{lt-leb}
+use Rattle.std.specs.Prelude.{Option, Some, None}
 use Rattle.clock.specs.declared.rate.Rate.{Rate}
 use Rattle.clock.proofs.Laws.{moved_moved}
 use Rattle.clock.proofs.Rates.{same_refl}
@@ -13,10 +14,10 @@ use Rattle.scan.specs.Settings.{pwm_of, frc_count_of, frame_of, rows_in, rate_of
 use Rattle.scan.specs.State.{rows, with_ticking}
 use Rattle.scan.proofs.Checks.{Valid}
 use Rattle.scan.proofs.Numbers.{div_in, mod_in, div_out, mod_out, cond_same, keep, not_zero, count_held, count_next, flips_next, frc_held, frc_next, flips_none}
+use Rattle.clock.specs.declared.edges.Clock.{Clock}
 use Rattle.scan.specs.declared.settings.Settings.{Settings}
 use Rattle.scan.specs.declared.settings.Frame.{Frame}
 use Rattle.scan.specs.declared.state.Scan.{Scan}
-use Rattle.scan.specs.declared.state.ScanClock.{ScanClock}
 use Rattle.scan.specs.declared.state.Ticking.{Ticking}
 use Rattle.scan.specs.declared.state.Inversion.{Inversion}
 
@@ -127,16 +128,16 @@ module _ (s : Settings) where
   counters_on n m x t = quanta_counters n (quanta m x s) t t ∙ ap (λ (y : Scan). with_ticking y t) (quanta_add n m x s)
 
 -- a clock ticked once is ticked by one
-pub ticked_once : (k : ScanClock) (r new : Rate) → ticked k r new ≡ ticked_by 1 k r new
+pub ticked_once : (k : Option Clock) (r new : Rate) → ticked k r new ≡ ticked_by 1 k r new
 unfolding ticked ticked_by
-ticked_once (ScanClock.Running c) r new = refl
-ticked_once ScanClock.Stopped r new = refl
+ticked_once (Some c) r new = refl
+ticked_once None r new = refl
 
 -- a clock ticked n times at one rate, and once more
-pub ticked_ticked : (n : ℕ) (k : ScanClock) (r new : Rate) → ticked (ticked_by n k r r) r new ≡ ticked_by (n + 1) k r new
+pub ticked_ticked : (n : ℕ) (k : Option Clock) (r new : Rate) → ticked (ticked_by n k r r) r new ≡ ticked_by (n + 1) k r new
 unfolding ticked ticked_by
-ticked_ticked n (ScanClock.Running c) r new = simp (same_refl r, moved_moved c r n 1)
-ticked_ticked n ScanClock.Stopped r new = refl
+ticked_ticked n (Some c) r new = simp (same_refl r, moved_moved c r n 1)
+ticked_ticked n None r new = refl
 
 -- clock and rate, and latch mark, after n quanta
 unfoldable pub ticking_in : Scan → Settings → ℕ → Ticking
@@ -154,7 +155,7 @@ unfoldable pub whole : Scan → Settings → ℕ → Scan
 whole x s n = closed x s (ticking_in x s n) (latch_in x n) n
 
 -- n quanta after which a further one begins with no setting changed
-pub record Ok (x : Scan) (s : Settings) (n : ℕ) : Type 0 where
+pub record InForce (x : Scan) (s : Settings) (n : ℕ) : Type 0 where
   pub row_ok : (ended_rows x n ≡ 0) ⊎ RowSettled x s
   pub frame_ok : (ended_frames x n ≡ 0) ⊎ (frame_of s ≡ x.frame)
   pub rate_ok : (n ≡ 0) ⊎ (rate_of s (rows x) ≡ x.ticking.rate)
@@ -164,7 +165,7 @@ module _ (x : Scan) (s : Settings) (v : Valid x) where
   rows_rate f fo = rate_held x s v x.ticking false 0 0 0 f (inl refl) fo
 
   -- while another quantum follows, rate and clock are those of the scan
-  pub rate_stays_lem : (n : ℕ) → Ok x s n → (ticking_in x s n).rate ≡ x.ticking.rate
+  pub rate_stays_lem : (n : ℕ) → InForce x s n → (ticking_in x s n).rate ≡ x.ticking.rate
   unfolding ticking_in
   rate_stays_lem zero ok = refl
   rate_stays_lem (suc n) ok = rows_rate (ended_frames x (suc n)) ok.frame_ok ∙ go ok.rate_ok
@@ -173,7 +174,7 @@ module _ (x : Scan) (s : Settings) (v : Valid x) where
       go (inl z) = absurd (omega arith)
       go (inr e) = e
 
-  clock_next : (n : ℕ) → Ok x s n → (new : Rate) → ticked (ticking_in x s n).clock (ticking_in x s n).rate new ≡ ticked_by (suc n) x.ticking.clock x.ticking.rate new
+  clock_next : (n : ℕ) → InForce x s n → (new : Rate) → ticked (ticking_in x s n).clock (ticking_in x s n).rate new ≡ ticked_by (suc n) x.ticking.clock x.ticking.rate new
   unfolding ticking_in
   clock_next zero ok new = ticked_once x.ticking.clock x.ticking.rate new
   clock_next (suc n) ok new =
@@ -182,7 +183,7 @@ module _ (x : Scan) (s : Settings) (v : Valid x) where
       ∙ ticked_ticked (suc n) x.ticking.clock x.ticking.rate new
       ∙ ap (λ (m : ℕ). ticked_by m x.ticking.clock x.ticking.rate new) (add-one (suc n))
 
-  module _ (n : ℕ) (ok : Ok x s n) where
+  module _ (n : ℕ) (ok : InForce x s n) where
     -- with the clock and the rate after n + 1 quanta, for the rate q
     abbrev ended : Rate → (t r e f : ℕ) → Scan
     ended q t r e f = after x s (record { clock = ticked_by (suc n) x.ticking.clock x.ticking.rate q; rate = q }) false t r e f
@@ -190,7 +191,7 @@ module _ (x : Scan) (s : Settings) (v : Valid x) where
     ends : (t r e f : ℕ) (new : Rate) → new ≡ rate_after x s f → (x.step + suc n) % x.pwm ≡ t → ended_rows x (suc n) ≡ e → (x.row + e) % rows x ≡ r → (x.row + e) / rows x ≡ f → after x s (ticked_to (ticking_in x s n) new) false t r e f ≡ whole x s (suc n)
     unfolding whole closed ticked_to ticking_in latch_in
     ends t r e f new p pt pe pr pf =
-        ap (λ (q : ScanClock). after x s (record { clock = q; rate = new }) false t r e f) (clock_next n ok new)
+        ap (λ (q : Option Clock). after x s (record { clock = q; rate = new }) false t r e f) (clock_next n ok new)
         ∙ ap (λ (q : Rate). ended q t r e f) p
         ∙ (λ i. ended (rate_after x s (sym pf i)) (sym pt i) (sym pr i) e (sym pf i))
         ∙ ap (λ (m : ℕ). ended (rate_after x s ((x.row + m) / rows x)) ((x.step + suc n) % x.pwm) ((x.row + m) % rows x) m ((x.row + m) / rows x)) (sym pe)
@@ -267,12 +268,12 @@ module _ (x : Scan) (s : Settings) (v : Valid x) where
       )
 
   -- n quanta are what division and remainder give
-  pub quanta_whole : (n : ℕ) → ((m : ℕ) → m < n → Ok x s m) → quanta n x s ≡ whole x s n
+  pub quanta_whole : (n : ℕ) → ((m : ℕ) → m < n → InForce x s m) → quanta n x s ≡ whole x s n
   unfolding quanta
   quanta_whole zero ok = none_counted
   quanta_whole (suc n) ok = ap (λ (y : Scan). quantum y s) (quanta_whole n (λ m h. ok m (omega arith))) ∙ next n (ok n (omega arith))
 
-  pub counters_closed : (n : ℕ) → 0 < n → ((m : ℕ) → m < n → Ok x s m) → closed x s x.ticking false n ≡ with_ticking (quanta n x s) x.ticking
+  pub counters_closed : (n : ℕ) → 0 < n → ((m : ℕ) → m < n → InForce x s m) → closed x s x.ticking false n ≡ with_ticking (quanta n x s) x.ticking
   unfolding whole closed after with_ticking latch_in
   counters_closed zero h ok = absurd (omega arith)
   counters_closed (suc n) h ok = sym (ap (λ (y : Scan). with_ticking y x.ticking) (quanta_whole (suc n) ok))

@@ -1,7 +1,8 @@
 -- Lists made byte by byte and row by row, as a loop stores them.
-use Rattle.std.proofs.Common.{◌≡◌, ℕ, zero, suc, ◌+◌, ◌-◌, ◌*◌, ◌<◌, ◌≤◌, List, [], ◌∷◌, ◌++◌, length, get_or, take, drop, set, sym, refl, ap, ◌∙◌, ⊎_elim, append_assoc, append-nil, le_of_suc-le-suc, not-suc-le-zero, eq-or-lt_of_le, add-one, arith, length-append, length-drop, drop_of_length-le, length-take-le, take_all, drop-cons, drop-drop, take_at, drop_at}
+use Rattle.std.proofs.Common.{◌≡◌, ℕ, zero, suc, ◌+◌, ◌-◌, ◌*◌, ◌<◌, ◌≤◌, List, [], ◌∷◌, ◌++◌, length, get_or, take, drop, replicate, sym, refl, ap, ◌∙◌, ⊎_elim, append_assoc, append-nil, le_of_suc-le-suc, not-suc-le-zero, eq-or-lt_of_le, add-one, arith, length-append, length-drop, drop_of_length-le, length-take-le, take_all, drop-drop, take_at, drop_at}
+use Rattle.std.proofs.lemmas.List.{ext_get_or, replicate-append-replicate}
 use lib.ListN.{get_or-append}
-use lib.Seq.{append_snoc, set_at, get_or_at, take-append-le, drop-append-le}
+use lib.Seq.{get_or_at, take-append-le, drop-append-le}
 use Rattle.scan.specs.Image.{up_to, rows_up_to}
 
 -- bytes one after another
@@ -20,15 +21,16 @@ module _ (f : ℕ → ℕ) where
       (λ k. get_or-append (up_to f n) (f n ∷ []) 0 i (omega (arith, length_up_to n)) ∙ get_d_up_to n i k)
       (eq-or-lt_of_le (le_of_suc-le-suc l))
 
-  -- a loop that stores f n at n, from the front: one byte more, and all
-  pub up_to_more : (n : ℕ) (d : List ℕ) → n < length d → set (up_to f n ++ drop n d) n (f n) ≡ up_to f (n + 1) ++ drop (n + 1) d
-  unfolding up_to
-  up_to_more n d l =
-      rw (add-one, drop-cons d n 0 l, set_at (up_to f n) (get_or d n 0) (drop (suc n) d) (f n) n (length_up_to n))
-      (sym (append_snoc (up_to f n) (f n) (drop (suc n) d)))
+  -- a list that holds f k at each place k
+  pub up_to_filled : (n : ℕ) (xs : List ℕ) → length xs ≡ n → ((k : ℕ) → k < n → get_or xs k 0 ≡ f k) → xs ≡ up_to f n
+  up_to_filled n xs e h =
+      ext_get_or 0 xs (up_to f n) (e ∙ sym (length_up_to n)) (λ k l. let below : k < n = omega (arith, e) in h k below ∙ sym (get_d_up_to n k below))
 
-  pub up_to_all : {n m : ℕ} (d : List ℕ) → n ≡ m → length d ≡ m → up_to f n ++ drop n d ≡ up_to f m
-  up_to_all {n} d e h = rw (drop_of_length-le d {i = n} (omega arith), append-nil, e)
+-- n times the same byte
+pub up_to_same : (v n : ℕ) → up_to (λ _. v) n ≡ replicate n v
+unfolding up_to
+up_to_same v zero = refl
+up_to_same v (suc n) = ap (λ (l : List ℕ). l ++ (v ∷ [])) (up_to_same v n) ∙ replicate-append-replicate n 1 v ∙ rw add-one
 
 -- a part of a list, as `&l[a..a + k]` has it
 pub length_part : (l : List ℕ) (a k : ℕ) → a + k ≤ length l → length (take (a + k - a) (drop a l)) ≡ k
@@ -66,9 +68,6 @@ module _ (f : ℕ → List ℕ) (row_length : (y : ℕ) → length (f y) ≡ 96)
       let next : n * 96 + 96 ≡ suc n * 96 = omega arith in
       rw (width, ew, ep, add-one n, take_at (rows_up_to f n) (drop (n * 96) d) (n * 96) (length_rows n), drop_at (rows_up_to f n) (drop (n * 96) d) (n * 96) (length_rows n), drop-drop 96 (n * 96) d, next)
       (sym (append_assoc (rows_up_to f n) (f n) (drop (suc n * 96) d)))
-
-  pub length_rows_drop : (n : ℕ) (d : List ℕ) {whole : List ℕ} → whole ≡ rows_up_to f n ++ drop (n * 96) d → n * 96 ≤ length d → length whole ≡ length d
-  length_rows_drop n d e l = ap length e ∙ rw (length-append, length_rows n, length-drop) (omega arith)
 
   pub rows_all : {n m : ℕ} (d : List ℕ) → n ≡ m → length d ≡ m * 96 → rows_up_to f n ++ drop (n * 96) d ≡ rows_up_to f m
   rows_all {n} d e h = rw (drop_of_length-le d {i = n * 96} (omega arith), append-nil, e)

@@ -1,7 +1,8 @@
 -- What a byte, a warm rise or a fall leaves of the scan: it stays valid, a call that does not begin the scan changes nothing that is
 -- shown, and where nothing is to be started, dropped or cleared the scan stays as it is.
 use Rattle.std.proofs.Common.{◌≡◌, ℕ, zero, suc, ◌+◌, ◌%◌, ◌<◌, Bool, true, false, cond, not, ◌&&◌, ◌||◌, eqb, ◌⊎◌, List, [], sym, refl, ap, ◌∙◌, inl, inr, arith, eq-eqb, eqb-true}
-use mathlib.Core.Option.{none}
+use mathlib.Core.Bool.{false≢true}
+use Rattle.std.specs.Prelude.{Option, Some, None, is_some}
 use Rattle.clock.specs.declared.time.Time.{Time}
 use Rattle.clock.specs.declared.rate.Rate.{Rate}
 use Rattle.clock.specs.Time.{raw, in_range}
@@ -9,12 +10,11 @@ use Rattle.clock.specs.Rate.{is_lcd, same_rate}
 use Rattle.clock.specs.Edges.{moved_by, started}
 use Rattle.clock.proofs.Checks.{valid_test}
 use Rattle.clock.proofs.Laws.{started_valid}
+use Rattle.clock.specs.declared.edges.Clock.{Clock}
 use Rattle.scan.specs.declared.settings.Settings.{Settings}
 use Rattle.scan.specs.declared.state.Scan.{Scan}
-use Rattle.scan.specs.declared.state.ScanClock.{ScanClock}
 use Rattle.scan.specs.declared.state.Ticking.{Ticking}
 use Rattle.scan.specs.declared.state.Inversion.{Inversion}
-use Rattle.scan.specs.declared.latch.DataPage.{DataPage}
 use Rattle.scan.specs.declared.run.Running.{Running}
 use Rattle.scan.specs.Settings.{pwm_of, frame_of, frc_count_of, rows_in, rate_of}
 use Rattle.scan.specs.State.{rows, with_ticking, with_inversion, with_latch, power_on}
@@ -28,6 +28,17 @@ use Rattle.scan.proofs.Checks.{Valid, InversionFits, ValidSettings, valid_scan_l
 use Rattle.scan.proofs.ValidQuanta.{pwm_pos, pwm_of_ok, frc_count_pos, frc_count_of_ok, frc_count_taken, rows_low, frame_of_fits, rate_lcd}
 use Rattle.scan.proofs.Counting.{count_none}
 use Rattle.scan.proofs.Latches.{latch_alike}
+
+-- a clock that runs is not started anew
+pub started_some : (k : Option Clock) (x : Scan) (s : Settings) (now : Time) → is_some k ≡ true → started_if k x s now ≡ x
+unfolding started_if
+started_some (Some c) x s now e = refl
+started_some None x s now e = absurd (false≢true e)
+
+pub started_none : (k : Option Clock) (x : Scan) (s : Settings) (now : Time) → is_some k ≡ false → started_if k x s now ≡ with_ticking x (record { clock = Some (started now (rate_of s (rows x))); rate = rate_of s (rows x) })
+unfolding started_if
+started_none (Some c) x s now e = absurd (false≢true (sym e))
+started_none None x s now e = refl
 
 -- ---- a valid scan stays valid
 cleared_fits : (lines : ℕ) (i : Inversion) → InversionFits i → (t : Bool) → InversionFits (cond t (no_lines i) i)
@@ -80,7 +91,7 @@ with_ticking_valid x t l c v = record {
 
 pub stopped_valid : (x : Scan) → Valid x → Valid (stopped x)
 unfolding stopped valid_running
-stopped_valid x v = with_ticking_valid x (record { clock = ScanClock.Stopped; rate = x.ticking.rate }) v.lcd refl v
+stopped_valid x v = with_ticking_valid x (record { clock = None; rate = x.ticking.rate }) v.lcd refl v
 
 clocked_valid : (x : Scan) (s : Settings) (now : Time) → Valid x → ValidSettings s → in_range now ≡ true → Valid (clocked x s now)
 unfolding clocked started_if valid_running
@@ -89,22 +100,22 @@ clocked_valid x s now v vs i = go (eqb (s.oscillator_control % 2) 0) x.ticking.c
     lcd : is_lcd (rate_of s (rows x)) ≡ true
     lcd = rate_lcd s vs x.frame v.frame
 
-    go : (t : Bool) (k : ScanClock) → Valid (cond t (started_if k x s now) (stopped x))
+    go : (t : Bool) (k : Option Clock) → Valid (cond t (started_if k x s now) (stopped x))
     go false k = stopped_valid x v
-    go true (ScanClock.Running k) = v
-    go true ScanClock.Stopped =
-        with_ticking_valid x (record { clock = ScanClock.Running (started now (rate_of s (rows x))); rate = rate_of s (rows x) }) lcd
+    go true (Some k) = v
+    go true None =
+        with_ticking_valid x (record { clock = Some (started now (rate_of s (rows x))); rate = rate_of s (rows x) }) lcd
         (valid_test (started now (rate_of s (rows x))) (rate_of s (rows x)) (started_valid now (rate_of s (rows x)) lcd i)) v
 
 -- the scan that `clocked` is called on passes its check, and the rate of its rows is an LCD rate
 module _ (x : Scan) (s : Settings) where
-  pub rows_lcd : valid_settings s ≡ true → check_scan x ≡ none → is_lcd (rate_of s (rows x)) ≡ true
+  pub rows_lcd : valid_settings s ≡ true → check_scan x ≡ None → is_lcd (rate_of s (rows x)) ≡ true
   rows_lcd vs p = rate_lcd s (valid_settings_lem s vs) x.frame (valid_scan_lem x p).frame
 
-  pub cleared_passes : check_scan x ≡ none → {y : Scan} → y ≡ cleared x s → check_scan y ≡ none
+  pub cleared_passes : check_scan x ≡ None → {y : Scan} → y ≡ cleared x s → check_scan y ≡ None
   cleared_passes p e = rw e (valid_check (cleared x s) (cleared_valid x s (valid_scan_lem x p)))
 
-  pub begun_passes : (ram icons : List ℕ) → valid_settings s ≡ true → {y : Scan} → y ≡ begun s ram icons → check_scan y ≡ none
+  pub begun_passes : (ram icons : List ℕ) → valid_settings s ≡ true → {y : Scan} → y ≡ begun s ram icons → check_scan y ≡ None
   begun_passes ram icons vs e = rw e (valid_check (begun s ram icons) (begun_valid s ram icons (valid_settings_lem s vs)))
 
 pub resumed_valid : (x : Scan) (s : Settings) (now : Time) (runs : Bool) → Valid x → ValidSettings s → in_range now ≡ true → Valid (resumed x s now runs)
@@ -130,16 +141,16 @@ module _ (x : Scan) (s : Settings) (ram icons : List ℕ) where
 
   pub stopped_shown : shown (stopped x) s ram icons ≡ shown x s ram icons
   unfolding stopped
-  stopped_shown = ticking_shown (record { clock = ScanClock.Stopped; rate = x.ticking.rate })
+  stopped_shown = ticking_shown (record { clock = None; rate = x.ticking.rate })
 
   pub clocked_shown : (now : Time) → shown (clocked x s now) s ram icons ≡ shown x s ram icons
   unfolding clocked started_if
   clocked_shown now = go (eqb (s.oscillator_control % 2) 0) x.ticking.clock
     where
-      go : (t : Bool) (k : ScanClock) → shown (cond t (started_if k x s now) (stopped x)) s ram icons ≡ shown x s ram icons
+      go : (t : Bool) (k : Option Clock) → shown (cond t (started_if k x s now) (stopped x)) s ram icons ≡ shown x s ram icons
       go false k = stopped_shown
-      go true (ScanClock.Running k) = refl
-      go true ScanClock.Stopped = ticking_shown (record { clock = ScanClock.Running (started now (rate_of s (rows x))); rate = rate_of s (rows x) })
+      go true (Some k) = refl
+      go true None = ticking_shown (record { clock = Some (started now (rate_of s (rows x))); rate = rate_of s (rows x) })
 
 -- a byte that does not make the scan run changes nothing that is shown
 module _ (x : Scan) (s : Settings) (now : Time) (ram icons : List ℕ) where
@@ -187,17 +198,17 @@ module _ (x : Scan) (s : Settings) where
   unfolding stopped with_ticking has_clock
   stopped_same h = go x.ticking.clock refl h
     where
-      go : (k : ScanClock) → x.ticking.clock ≡ k → has_clock k ≡ false → stopped x ≡ x
-      go (ScanClock.Running k) e h = let z : ◌≡◌ {A = ℕ} 0 1 = cc in absurd (omega arith)
-      go ScanClock.Stopped e h = ap (λ (k : ScanClock). with_ticking x (record { clock = k; rate = x.ticking.rate })) (sym e)
+      go : (k : Option Clock) → x.ticking.clock ≡ k → has_clock k ≡ false → stopped x ≡ x
+      go (Some k) e h = let z : ◌≡◌ {A = ℕ} 0 1 = cc in absurd (omega arith)
+      go None e h = ap (λ (k : Option Clock). with_ticking x (record { clock = k; rate = x.ticking.rate })) (sym e)
 
   clocked_same : (now : Time) → has_clock x.ticking.clock ≡ eqb (s.oscillator_control % 2) 0 → clocked x s now ≡ x
   unfolding clocked started_if has_clock
   clocked_same now h = go (eqb (s.oscillator_control % 2) 0) x.ticking.clock h refl
     where
-      go : (t : Bool) (k : ScanClock) → has_clock k ≡ t → x.ticking.clock ≡ k → cond t (started_if k x s now) (stopped x) ≡ x
-      go true (ScanClock.Running k) h e = refl
-      go true ScanClock.Stopped h e = let z : ◌≡◌ {A = ℕ} 0 1 = cc in absurd (omega arith)
+      go : (t : Bool) (k : Option Clock) → has_clock k ≡ t → x.ticking.clock ≡ k → cond t (started_if k x s now) (stopped x) ≡ x
+      go true (Some k) h e = refl
+      go true None h e = let z : ◌≡◌ {A = ℕ} 0 1 = cc in absurd (omega arith)
       go false k h e = stopped_same (ap has_clock e ∙ h)
 
   -- then a byte that leaves the scan running, or not running, changes nothing
@@ -211,18 +222,18 @@ module _ (x : Scan) (s : Settings) where
   unfolding clocked started_if stopped with_ticking has_clock
   clocked_has now = go (eqb (s.oscillator_control % 2) 0) x.ticking.clock refl
     where
-      go : (t : Bool) (k : ScanClock) → x.ticking.clock ≡ k → has_clock (cond t (started_if k x s now) (stopped x)).ticking.clock ≡ t
-      go true (ScanClock.Running k) e = ap has_clock e
-      go true ScanClock.Stopped e = refl
+      go : (t : Bool) (k : Option Clock) → x.ticking.clock ≡ k → has_clock (cond t (started_if k x s now) (stopped x)).ticking.clock ≡ t
+      go true (Some k) e = ap has_clock e
+      go true None e = refl
       go false k e = refl
 
   clocked_lines : (now : Time) → (clocked x s now).inversion ≡ x.inversion
   unfolding clocked started_if stopped with_ticking
   clocked_lines now = go (eqb (s.oscillator_control % 2) 0) x.ticking.clock
     where
-      go : (t : Bool) (k : ScanClock) → (cond t (started_if k x s now) (stopped x)).inversion ≡ x.inversion
-      go true (ScanClock.Running k) = refl
-      go true ScanClock.Stopped = refl
+      go : (t : Bool) (k : Option Clock) → (cond t (started_if k x s now) (stopped x)).inversion ≡ x.inversion
+      go true (Some k) = refl
+      go true None = refl
       go false k = refl
 
   cleared_lines : s.inversion_lines ≡ 0 → (cleared x s).inversion ≡ no_lines x.inversion
@@ -253,14 +264,14 @@ resumed_quiet x s now true = updated_quiet x s now [] [] true true
 resumed_quiet x s now false = updated_quiet x s now [] [] true false
 
 -- counting and keeping the latch leave it so
-ticked_has : (k : ScanClock) (r new : Rate) → has_clock (ticked k r new) ≡ has_clock k
+ticked_has : (k : Option Clock) (r new : Rate) → has_clock (ticked k r new) ≡ has_clock k
 unfolding ticked has_clock
-ticked_has (ScanClock.Running c) r new = go (same_rate r new)
+ticked_has (Some c) r new = go (same_rate r new)
   where
-    go : (t : Bool) → has_clock (cond t (ScanClock.Running (moved_by c r 1)) (ScanClock.Running (started (moved_by c r 1).at new))) ≡ true
+    go : (t : Bool) → has_clock (cond t (Some (moved_by c r 1)) (Some (started (moved_by c r 1).at new))) ≡ true
     go true = refl
     go false = refl
-ticked_has ScanClock.Stopped r new = refl
+ticked_has None r new = refl
 
 module _ (s : Settings) (runs : Bool) where
   quantum_quiet : (x : Scan) → Quiet x s runs → Quiet (quantum x s) s runs
@@ -288,7 +299,7 @@ module _ (s : Settings) (runs : Bool) where
   unfolding count_to
   count_to_quiet x now q = count_quiet (raw now + 1) x now q
 
-  pub retained_quiet : (x : Scan) (page : DataPage) (ram icons : List ℕ) → Quiet x s runs → Quiet (retained x s page ram icons) s runs
+  pub retained_quiet : (x : Scan) (page : Option ℕ) (ram icons : List ℕ) → Quiet x s runs → Quiet (retained x s page ram icons) s runs
   unfolding retained latch_retained with_latch
   retained_quiet x page ram icons q = go (x.latch.latched || not (affects page (latched_row x)))
     where

@@ -1,17 +1,18 @@
 -- Bytes that leave the scan as it is.
-use Rattle.std.proofs.Common.{◌≡◌, ℕ, true, false, not, ◌||◌, List, sym, eq-eqb, eqb-true}
+use Rattle.std.proofs.Common.{◌≡◌, ℕ, true, false, not, ◌||◌, List, refl, sym, eq-eqb, eqb-true}
 use mathlib.Core.Bool.{false≢true}
 use borrow.Author.Tests.{not-true}
+use Rattle.std.specs.Prelude.{Option, Some, None, is_some}
+use Rattle.clock.specs.declared.edges.Clock.{Clock}
 use Rattle.checks.proofs.Tests.{both}
 use Rattle.clock.specs.declared.time.Time.{Time}
 use Rattle.scan.specs.declared.settings.Settings.{Settings}
 use Rattle.scan.specs.declared.state.Scan.{Scan}
 use Rattle.scan.specs.declared.state.Inversion.{Inversion}
-use Rattle.scan.specs.declared.latch.DataPage.{DataPage}
 use Rattle.scan.specs.declared.run.Running.{Running}
 use Rattle.scan.specs.Latch.{latched_row, affects, retained}
 use Rattle.scan.specs.Run.{updated}
-use Rattle.scan.specs.Byte.{lines_stay, settled, steady}
+use Rattle.scan.specs.Byte.{has_clock, lines_stay, settled, steady}
 use Rattle.scan.proofs.Numbers.{beq_true}
 use Rattle.scan.proofs.Runs.{updated_same}
 
@@ -20,6 +21,12 @@ lines_ended : (i : Inversion) (s : Settings) → lines_stay i s ≡ true → s.i
 lines_ended i s h e =
     let p = both _ _ (simp (eq-eqb s.inversion_lines 0 e) at h) in
     (eqb-true _ _ p.0, eqb-true _ _ p.1)
+
+-- whether a clock runs, as src/byte.rt asks it
+pub has_clock_is : (k : Option Clock) → is_some k ≡ has_clock k
+unfolding has_clock
+has_clock_is (Some c) = refl
+has_clock_is None = refl
 
 pub settled_same : (x : Scan) (s : Settings) (now : Time) (running : Running) (ram icons : List ℕ) → settled x s running ≡ true → updated x s now running ram icons ≡ x
 unfolding settled
@@ -31,7 +38,7 @@ settled_same x s now Running.Stands ram icons h =
     let p = both _ _ h in
     updated_same x s now false ram icons (record { clock = not-true _ p.1; lines = λ e. (lines_ended x.inversion s p.0 e).0; count = λ e. (lines_ended x.inversion s p.0 e).1 })
 
-pub steady_same : (x : Scan) (before after : Settings) (now : Time) (page : DataPage) (running : Running) (ram icons : List ℕ) → steady x after page running ≡ true → x ≡ updated (retained x before page ram icons) after now running ram icons
+pub steady_same : (x : Scan) (before after : Settings) (now : Time) (page : Option ℕ) (running : Running) (ram icons : List ℕ) → steady x after page running ≡ true → x ≡ updated (retained x before page ram icons) after now running ram icons
 unfolding retained
 steady_same x before after now page running ram icons h =
     let p = both (settled x after running) (x.latch.latched || not (affects page (latched_row x))) h in

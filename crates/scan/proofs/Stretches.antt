@@ -2,7 +2,7 @@
 -- alone. Stretch after stretch is the count, and the uses of the piece rule add up.
 use Rattle.std.proofs.Common.{◌≡◌, ℕ, zero, suc, ◌+◌, ◌-◌, ◌^◌, ◌<◌, ◌≤◌, min, Bool, true, false, cond, ltb, ◌⊎◌, sym, refl, ap, ◌∙◌, inl, inr, ⊎_elim, zero-add, arith, ltb-false, le-ltb, lt-ltb}
 use mathlib.Core.Bool.{false≢true}
-use mathlib.Core.Option.{none, some}
+use Rattle.std.specs.Prelude.{Option, Some, None, Result, Ok, Err}
 use Rattle.checks.proofs.Tests.{both}
 use Rattle.clock.specs.declared.time.Time.{Time}
 use Rattle.clock.specs.declared.rate.Rate.{Rate}
@@ -15,21 +15,20 @@ use Rattle.clock.specs.Time.{raw, in_range}
 use Rattle.clock.proofs.Rates.{same_rate_lem, same_refl}
 use Rattle.scan.specs.declared.settings.Settings.{Settings}
 use Rattle.scan.specs.declared.state.Scan.{Scan}
-use Rattle.scan.specs.declared.state.ScanClock.{ScanClock}
 use Rattle.scan.specs.declared.state.Ticking.{Ticking}
 use Rattle.scan.specs.declared.stretch.Run.{Run}
 use Rattle.scan.specs.Settings.{frame_of, rows_in, rate_of}
 use Rattle.scan.specs.State.{rows, with_ticking}
-use Rattle.scan.specs.Check.{valid_settings, valid_scan, valid_running, check_scan}
+use Rattle.scan.specs.Check.{number, by_clock, valid_settings, valid_scan, valid_running, check_scan}
 use Rattle.scan.specs.Quantum.{frame_ends, frame_after, ticked_to, quantum}
 use Rattle.scan.specs.Count.{due, count_to, rate_same, row_same, frame_same, limit_with, pieces}
 use Rattle.scan.specs.Closed.{quanta, ticked_by, closed}
 use Rattle.scan.specs.Stretch.{limit_in, edges_in, rate_stays, stretch_limit, stretch, ticked_on, InPieces, count_clock}
-use Rattle.scan.proofs.Checks.{Valid, ValidSettings, valid_scan_lem, valid_check, valid_settings_lem, valid_of, check_by}
+use Rattle.scan.proofs.Checks.{Valid, ValidSettings, valid_scan_lem, valid_check, valid_settings_lem, valid_of, check_by, by_clock_number}
 use Rattle.scan.proofs.Counting.{count_quantum}
 use Rattle.scan.proofs.Due.{due_stopped, counted_none}
 use Rattle.scan.proofs.ValidQuanta.{rate_lcd, counters_valid, quantum_valid}
-use Rattle.scan.proofs.Pieces.{Steady, rate_settled, within, limit_pos, clock_next, due_at_lem, due_is, steady_in, few, piece_quanta, pieces_none, asked_refused, asked_running, asked_check, asked_count, asked_moved, asked_few, asked_range}
+use Rattle.scan.proofs.Pieces.{Steady, rate_settled, within, limit_pos, clock_next, due_at_lem, due_is, steady_in, few, piece_quanta, pieces_none, asked_refused, asked_number, asked_running, asked_check, asked_count, asked_moved, asked_few, asked_range}
 use Rattle.scan.proofs.Quanta.{quanta_add, quantum_counters, counters_on, counters_closed}
 use Rattle.scan.proofs.Stages.{at_most_four, pieces_next}
 
@@ -86,11 +85,11 @@ module _ (s : Settings) (vs : ValidSettings s) (now : Time) (i : in_range now �
   stretch_ends h = due_at_lem x s v now (stretch x s now) (steady_below (stretch x s now) h) ∙ le-ltb (stretch x s now) (edges_in x.ticking.clock x.ticking.rate now) (omega arith)
 
   -- the clock and rate that src/count.rt joins to the counters
-  joined : {c : Clock} → x.ticking.clock ≡ ScanClock.Running c → (n : ℕ) → (n ≡ 0 → ⊥) → n ≤ stretch_limit x s → with_ticking (quanta n x s) (ticked_on x s n (moved_by c x.ticking.rate n)) ≡ quanta n x s
+  joined : {c : Clock} → x.ticking.clock ≡ Some c → (n : ℕ) → (n ≡ 0 → ⊥) → n ≤ stretch_limit x s → with_ticking (quanta n x s) (ticked_on x s n (moved_by c x.ticking.rate n)) ≡ quanta n x s
   unfolding with_ticking ticked_by quanta quantum ticked_to
   joined running zero z h = absurd (z refl)
   joined running (suc n) z h =
-      let clock = clock_next x s n (steady_below n (omega arith)) ∙ ap (λ (k : ScanClock). ticked_by (suc n) k x.ticking.rate (rate_of s (rows (quanta (suc n) x s)))) running in
+      let clock = clock_next x s n (steady_below n (omega arith)) ∙ ap (λ (k : Option Clock). ticked_by (suc n) k x.ticking.rate (rate_of s (rows (quanta (suc n) x s)))) running in
       λ j. with_ticking (quanta (suc n) x s) (record { clock = sym clock j; rate = rate_of s (rows (quanta (suc n) x s)) })
 
   -- where the rate stays, the edges left after m quanta
@@ -161,7 +160,7 @@ limit_by_rate : (y : Scan) (s : Settings) (t : Ticking) → t.rate ≡ y.ticking
 unfolding limit_with with_ticking rate_same row_same frame_same
 limit_by_rate y s t e = simp e
 
-module _ (x : Scan) (s : Settings) (n : ℕ) (pre : (check_scan x ≡ none) × ((valid_settings s ≡ true) × (n ≤ 2 ^ 50))) where
+module _ (x : Scan) (s : Settings) (n : ℕ) (pre : (check_scan x ≡ None) × ((valid_settings s ≡ true) × (n ≤ 2 ^ 50))) where
   abbrev v : Valid x
   v = valid_scan_lem x pre.0
 
@@ -191,7 +190,7 @@ module _ (x : Scan) (s : Settings) (n : ℕ) (pre : (check_scan x ≡ none) × (
     from_valid : Valid from
     from_valid = rw a.from_is (counted_valid a.done)
 
-    pub taken_check : check_scan from ≡ none
+    pub taken_check : check_scan from ≡ None
     taken_check = valid_check from from_valid
 
     pub taken_valid : valid_scan from ≡ true
@@ -255,10 +254,10 @@ module _ (x : Scan) (s : Settings) (n : ℕ) (pre : (check_scan x ≡ none) × (
 
 -- ---- `stretch`
 -- the run with the clock and rate that follow
-pub stretch_run : (x : Scan) (s : Settings) (n : ℕ) (m : Clock) {r : Run} → InPieces x s n x.ticking r → {new : Rate} → new ≡ rate_of s (rows r.scan) → {k : ScanClock} → k ≡ cond (same_rate x.ticking.rate new) (ScanClock.Running m) (ScanClock.Running (started m.at new)) → {y : Scan} → y ≡ with_ticking r.scan (record { clock = k; rate = new }) → InPieces x s n (ticked_on x s n m) (record { scan = y; pieces = r.pieces })
+pub stretch_run : (x : Scan) (s : Settings) (n : ℕ) (m : Clock) {r : Run} → InPieces x s n x.ticking r → {new : Rate} → new ≡ rate_of s (rows r.scan) → {k : Option Clock} → k ≡ cond (same_rate x.ticking.rate new) (Some m) (Some (started m.at new)) → {y : Scan} → y ≡ with_ticking r.scan (record { clock = k; rate = new }) → InPieces x s n (ticked_on x s n m) (record { scan = y; pieces = r.pieces })
 unfolding with_ticking
 stretch_run x s n m {r} run {new} er {k} ek {y} ey = record {
-  counters = ey ∙ (λ j. with_ticking (run.counters j) (record { clock = (ek ∙ ap (λ (q : Rate). cond (same_rate x.ticking.rate q) (ScanClock.Running m) (ScanClock.Running (started m.at q))) rate) j; rate = rate j }));
+  counters = ey ∙ (λ j. with_ticking (run.counters j) (record { clock = (ek ∙ ap (λ (q : Rate). cond (same_rate x.ticking.rate q) (Some m) (Some (started m.at q))) rate) j; rate = rate j }));
   some_uses = run.some_uses;
   uses = run.uses;
 }
@@ -272,7 +271,7 @@ pub record Left (x : Scan) (s : Settings) (now : Time) (from : Scan) (before : �
   pub pre : (in_range now ≡ true) × ((valid_settings s ≡ true) × (valid_scan x ≡ true))
   pub valid : valid_scan from ≡ true
   pub refused : valid_running from.ticking.clock from.ticking.rate ≡ false → from ≡ x
-  pub passed : valid_running from.ticking.clock from.ticking.rate ≡ true → check_scan x ≡ none
+  pub passed : valid_running from.ticking.clock from.ticking.rate ≡ true → check_scan x ≡ None
   pub counts : count_to from s now ≡ count_to x s now
   pub uses : before + pieces from s now ≡ pieces x s now
 
@@ -294,65 +293,66 @@ module _ {x : Scan} {s : Settings} {now : Time} {from : Scan} {before : ℕ} (a 
   pub left_few : before < 256
   left_few = omega (arith, uses_few)
 
-  counts_passed : count_clock x s now ≡ (none, (count_to x s now, pieces x s now))
+  counts_passed : count_clock x s now ≡ (None, (count_to x s now, pieces x s now))
   unfolding count_clock
   counts_passed = rw (valid_scan_lem x (a.passed k)).clock_ok
 
-  left_none : due from now ≡ false → (none, (from, before)) ≡ count_clock x s now
+  left_none : due from now ≡ false → (None, (from, before)) ≡ count_clock x s now
   left_none d =
       let scan = counted_none from s now d ∙ a.counts in
       let uses : before ≡ pieces x s now = omega (arith, a.uses, none_used from s now d) in
-      (λ j. (none, (scan j, uses j))) ∙ sym counts_passed
+      (λ j. (None, (scan j, uses j))) ∙ sym counts_passed
 
 -- a turn of the loop
 module _ {x : Scan} {s : Settings} {now : Time} {from : Scan} {before : ℕ} (a : Left x s now from before) where
   abbrev fit : ValidSettings s
   fit = valid_settings_lem s a.pre.1.0
 
-  pub left_stopped : from.ticking.clock ≡ ScanClock.Stopped → (before < 256) × ((none, (from, before)) ≡ count_clock x s now)
+  pub left_stopped : from.ticking.clock ≡ None → (before < 256) × ((None, (from, before)) ≡ count_clock x s now)
   unfolding valid_running
   left_stopped e =
       let k : valid_running from.ticking.clock from.ticking.rate ≡ true = rw e in
       (left_few a k, left_none a k (sym (due_stopped from now e)))
 
   -- by the clock's answer p with the limit l
-  module _ {c : Clock} (running : from.ticking.clock ≡ ScanClock.Running c) {l : ℕ} (limit : l ≡ stretch_limit from s) (p : Passed) (answer : answered_pass p ≡ pass_edges c from.ticking.rate now l) where
-    pub left_refused : {why : Refusal} → p ≡ Passed.Refused why → (some 5, (from, 0)) ≡ count_clock x s now
+  module _ {c : Clock} (running : from.ticking.clock ≡ Some c) {l : ℕ} (limit : l ≡ stretch_limit from s) (p : Result Passed Refusal) (answer : answered_pass p ≡ pass_edges c from.ticking.rate now l) where
+    pub left_refused : {why : Refusal} → p ≡ Err why → (Some (number (by_clock why)), (x, 0)) ≡ count_clock x s now
     unfolding count_clock
     left_refused h =
         let k = asked_refused from now a.pre.0 a.valid running l p answer h in
-        let same = a.refused k in
-        ap (λ (y : Scan). (some 5, (y, 0))) same ∙ sym (rw (ap (λ (y : Scan). valid_running y.ticking.clock y.ticking.rate) (sym same) ∙ k))
+        let given : valid_running x.ticking.clock x.ticking.rate ≡ false = ap (λ (y : Scan). valid_running y.ticking.clock y.ticking.rate) (sym (a.refused k)) ∙ k in
+        let five = by_clock_number _ ∙ asked_number from now a.pre.0 a.valid running l p answer h in
+        rw (five, given)
 
-    module _ {n : ℕ} {m : Clock} (given : p ≡ Passed.Edges n m) where
+    module _ {q : Passed} (given : p ≡ Ok q) where
       pub left_passes : valid_running from.ticking.clock from.ticking.rate ≡ true
       left_passes = asked_running from now a.pre.0 a.valid running l p answer given
 
-      check : check_scan from ≡ none
+      check : check_scan from ≡ None
       check = asked_check from now a.pre.0 a.valid running l p answer given
 
-      count : stretch from s now ≡ n
+      count : stretch from s now ≡ q.count
       count = sym (asked_count from now a.pre.0 a.valid running l p answer given ∙ ap (min (edges_in from.ticking.clock from.ticking.rate now)) limit)
 
-      pub left_zero : n ≡ 0 → (none, (from, before)) ≡ count_clock x s now
+      pub left_zero : q.count ≡ 0 → (None, (from, before)) ≡ count_clock x s now
       left_zero z = left_none a left_passes (due_is from s (valid_scan_lem from check) now ∙ le-ltb 0 (edges_in from.ticking.clock from.ticking.rate now) (none_due z))
         where
-          none_due : n ≡ 0 → edges_in from.ticking.clock from.ticking.rate now ≤ 0
+          none_due : q.count ≡ 0 → edges_in from.ticking.clock from.ticking.rate now ≤ 0
           none_due z = omega (arith, count, stretch_some s fit now a.pre.0 from (valid_scan_lem from check))
 
-      module _ (z : n ≡ 0 → ⊥) where
-        pub left_asked : (check_scan from ≡ none) × ((valid_settings s ≡ true) × ((n ≤ 2 ^ 50) × (in_range m.at ≡ true)))
+      module _ (z : q.count ≡ 0 → ⊥) where
+        pub left_asked : (check_scan from ≡ None) × ((valid_settings s ≡ true) × ((q.count ≤ 2 ^ 50) × (in_range q.clock.at ≡ true)))
         left_asked = (check, (a.pre.1.0, (asked_few from now a.pre.0 a.valid running l p answer given, asked_range from now a.pre.0 a.valid running l p answer given z)))
 
-        module _ {r : Run} (run : InPieces from s n (ticked_on from s n m) r) where
-          counted_is : r.scan ≡ quanta n from s
+        module _ {r : Run} (run : InPieces from s q.count (ticked_on from s q.count q.clock) r) where
+          counted_is : r.scan ≡ quanta q.count from s
           counted_is =
               run.counters
-              ∙ ap (λ (d : Clock). with_ticking (quanta n from s) (ticked_on from s n d)) (asked_moved from now a.pre.0 a.valid running l p answer given)
-              ∙ joined s fit now a.pre.0 from (valid_scan_lem from check) running n z (omega (arith, count))
+              ∙ ap (λ (d : Clock). with_ticking (quanta q.count from s) (ticked_on from s q.count d)) (asked_moved from now a.pre.0 a.valid running l p answer given)
+              ∙ joined s fit now a.pre.0 from (valid_scan_lem from check) running q.count z (omega (arith, count))
 
-          counted_check : check_scan r.scan ≡ none
-          counted_check = ap check_scan counted_is ∙ valid_check (quanta n from s) (stretch_valid s fit now a.pre.0 from (valid_scan_lem from check) n (omega (arith, count)))
+          counted_check : check_scan r.scan ≡ None
+          counted_check = ap check_scan counted_is ∙ valid_check (quanta q.count from s) (stretch_valid s fit now a.pre.0 from (valid_scan_lem from check) q.count (omega (arith, count)))
 
           now_passes : valid_running r.scan.ticking.clock r.scan.ticking.rate ≡ true
           now_passes = (valid_scan_lem r.scan counted_check).clock_ok
@@ -366,7 +366,7 @@ module _ {x : Scan} {s : Settings} {now : Time} {from : Scan} {before : ℕ} (a 
             valid = valid_of r.scan counted_check;
             refused = λ h. absurd (false≢true (sym h ∙ now_passes));
             passed = λ h. a.passed left_passes;
-            counts = ap (λ (y : Scan). count_to y s now) counted_is ∙ stretch_counts s fit now a.pre.0 from (valid_scan_lem from check) n (omega (arith, count)) ∙ a.counts;
+            counts = ap (λ (y : Scan). count_to y s now) counted_is ∙ stretch_counts s fit now a.pre.0 from (valid_scan_lem from check) q.count (omega (arith, count)) ∙ a.counts;
             uses = omega (arith, a.uses, uses_on);
           }
 
@@ -378,10 +378,10 @@ module _ {x : Scan} {s : Settings} {now : Time} {from : Scan} {before : ℕ} (a 
           left_room = omega (arith, uses_on, uses_few a left_passes)
 
           -- fewer edges than the limit: no more are due
-          ended : n < l → due r.scan now ≡ false
+          ended : q.count < l → due r.scan now ≡ false
           ended h =
               ap (λ (y : Scan). due y now) (counted_is ∙ ap (λ (k : ℕ). quanta k from s) (sym count))
               ∙ stretch_ends s fit now a.pre.0 from (valid_scan_lem from check) (omega (arith, count, limit))
 
-          pub left_last : n < l → (none, (r.scan, before + r.pieces)) ≡ count_clock x s now
+          pub left_last : q.count < l → (None, (r.scan, before + r.pieces)) ≡ count_clock x s now
           left_last h = left_none left_next now_passes (ended h)

@@ -1,6 +1,7 @@
 -- A quantum keeps a scan valid: numbers 4 and 5 hold of what is counted.
 use Rattle.std.proofs.Common.{◌≡◌, ℕ, zero, suc, ◌+◌, ◌/◌, ◌%◌, ◌<◌, ◌≤◌, Bool, true, false, cond, ◌||◌, eqb, leb, ◌⊎◌, get_or, refl, inl, inr, mod-lt, arith, ne_eqb, eqb-true, leb-false, leb-true}
 use mathlib.Core.Bool.{false≢true}
+use Rattle.std.specs.Prelude.{Option, Some, None}
 use Rattle.clock.specs.declared.time.Time.{Time}
 use Rattle.clock.specs.declared.rate.Rate.{Rate}
 use Rattle.checks.proofs.Tests.{either}
@@ -16,11 +17,11 @@ use Rattle.scan.specs.Quantum.{row_ends, frame_ends, lines_end, count_on, invers
 use Rattle.scan.specs.Settings.{pwm_widths, pwm_of, frc_count_of, frame_of, rows_of, rows_in, rate_of}
 use Rattle.scan.specs.State.{rows, with_ticking}
 use Rattle.scan.proofs.Checks.{Valid, FrameFits, InversionFits, ValidSettings}
+use Rattle.clock.specs.declared.edges.Clock.{Clock}
 use Rattle.scan.specs.declared.settings.Settings.{Settings}
 use Rattle.scan.specs.declared.settings.Frame.{Frame}
 use Rattle.scan.specs.declared.state.Scan.{Scan}
 use Rattle.scan.specs.declared.state.Inversion.{Inversion}
-use Rattle.scan.specs.declared.state.ScanClock.{ScanClock}
 use Rattle.scan.specs.declared.state.Ticking.{Ticking}
 
 -- the values that settings give are in range
@@ -129,15 +130,15 @@ rate_lcd s vs f v =
     lcd_given s.oscillator_control s.oscillator_frequency (rows_in f) (omega (arith, vs.frequency_high)) (omega (arith, rows_low f, v.duty_low)) (omega (arith, rows_high f, v.duty_high))
 
 -- a clock ticked to a moment in range is valid at its rate
-ticked_valid : (k : ScanClock) (r new : Rate) (now : Time) → in_range now ≡ true → is_lcd r ≡ true → is_lcd new ≡ true → valid_running k r ≡ true → due_at k r now ≡ true → valid_running (ticked k r new) new ≡ true
+ticked_valid : (k : Option Clock) (r new : Rate) (now : Time) → in_range now ≡ true → is_lcd r ≡ true → is_lcd new ≡ true → valid_running k r ≡ true → due_at k r now ≡ true → valid_running (ticked k r new) new ≡ true
 unfolding valid_running due_at ticked
-ticked_valid ScanClock.Stopped r new now i l m v d = refl
-ticked_valid (ScanClock.Running c) r new now i l m v d = go (same_rate r new) refl
+ticked_valid None r new now i l m v d = refl
+ticked_valid (Some c) r new now i l m v d = go (same_rate r new) refl
   where
     range : in_range (moved_by c r 1).at ≡ true
     range = earlier_in_range (moved_by c r 1).at now (leb-true _ _ d) i
 
-    go : (t : Bool) → same_rate r new ≡ t → valid_running (cond t (ScanClock.Running (moved_by c r 1)) (ScanClock.Running (started (moved_by c r 1).at new))) new ≡ true
+    go : (t : Bool) → same_rate r new ≡ t → valid_running (cond t (Some (moved_by c r 1)) (Some (started (moved_by c r 1).at new))) new ≡ true
     go true h = rw (← same_rate_lem r new h) (valid_test (moved_by c r 1) r (moved_valid c r (omega (arith, (lcd_bounds r l).low)) 1 (valid c r v) range))
     go false h = valid_test (started (moved_by c r 1).at new) new (started_valid (moved_by c r 1).at new m range)
 

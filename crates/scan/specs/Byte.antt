@@ -1,19 +1,18 @@
 -- Definitions that contracts of src/byte.rt cite: the tests by which a byte leaves the counted scan as it is. Nothing here is a
 -- rule; the rule of a byte is `byte_scan` (Run.antt).
-use Rattle.std.specs.Prelude.{◌%◌, Bool, true, false, not, ◌&&◌, ◌||◌, ◌==◌}
+use Rattle.std.specs.Prelude.{ℕ, ◌%◌, Bool, true, false, not, ◌&&◌, ◌||◌, ◌==◌, Option, None, Some}
 use Rattle.std.specs.Bool.{beq}
+use Rattle.clock.specs.declared.edges.Clock.{Clock}
 use Rattle.scan.specs.declared.settings.Settings.{Settings}
 use Rattle.scan.specs.declared.state.Scan.{Scan}
-use Rattle.scan.specs.declared.state.ScanClock.{ScanClock}
 use Rattle.scan.specs.declared.state.Inversion.{Inversion}
-use Rattle.scan.specs.declared.latch.DataPage.{DataPage}
 use Rattle.scan.specs.declared.run.Running.{Running}
 use Rattle.scan.specs.Latch.{latched_row, affects}
 
 -- whether a clock runs
-unfoldable pub has_clock : ScanClock → Bool
-has_clock (ScanClock.Running k) = true
-has_clock ScanClock.Stopped = false
+unfoldable pub has_clock : Option Clock → Bool
+has_clock (Some k) = true
+has_clock None = false
 
 -- no line inversion is left to be ended
 abbrev pub lines_stay : Inversion → Settings → Bool
@@ -26,9 +25,9 @@ settled x s Running.Continues = lines_stay x.inversion s && beq (has_clock x.tic
 settled x s Running.Stands = lines_stay x.inversion s && not (has_clock x.ticking.clock)
 
 -- the latch need not be retained before it
-abbrev pub stays_shown : Scan → DataPage → Bool
+abbrev pub stays_shown : Scan → Option ℕ → Bool
 stays_shown x page = x.latch.latched || not (affects page (latched_row x))
 
 -- both
-abbrev pub steady : Scan → Settings → DataPage → Running → Bool
+abbrev pub steady : Scan → Settings → Option ℕ → Running → Bool
 steady x s page running = settled x s running && stays_shown x page

@@ -1,22 +1,20 @@
 -- Document 01, 'Where a call is turned down': the conditions of `validate` on settings and scan, the numbers of this crate's
 -- refusals, and the rows of the table that a call names, in the table's order.
-use Rattle.std.specs.Prelude.{ℕ, Bool, true, cond, ◌&&◌, ◌||◌, List, length, ◌==◌, nat_le, nat_lt}
-use Rattle.std.proofs.Math.Option.{Option, none, some}
-use Rattle.checks.specs.Checks.{row, first_of}
+use Rattle.std.specs.Prelude.{ℕ, Bool, true, ◌&&◌, ◌||◌, List, length, ◌==◌, nat_le, nat_lt, Option, None, Some, Result}
+use Rattle.checks.specs.Checks.{row, first_of, refused_by, left_by}
 use Rattle.clock.specs.declared.time.Time.{Time}
 use Rattle.clock.specs.declared.rate.Rate.{Rate}
 use Rattle.clock.specs.Time.{in_range}
 use Rattle.clock.specs.Rate.{is_lcd}
 use Rattle.clock.specs.Check.{valid_clock}
+use Rattle.clock.specs.declared.edges.Clock.{Clock}
 use Rattle.scan.specs.declared.settings.Settings.{Settings}
 use Rattle.scan.specs.declared.settings.Frame.{Frame}
 use Rattle.scan.specs.declared.state.Scan.{Scan}
-use Rattle.scan.specs.declared.state.ScanClock.{ScanClock}
 use Rattle.scan.specs.declared.state.Inversion.{Inversion}
 use Rattle.scan.specs.declared.check.Refusal.{Refusal}
-use Rattle.scan.specs.declared.check.Check.{Check}
-use Rattle.scan.specs.declared.check.Changed.{Changed}
 use Rattle.scan.specs.State.{rows}
+use Rattle.clock.specs.declared.check.Refusal as clocks
 
 -- the numbers of document 01's table
 abbrev pub number : Refusal → ℕ
@@ -28,13 +26,18 @@ number Refusal.Scan = 4
 number Refusal.Clock = 5
 
 -- the number of a refusal, or none where a check passes
-abbrev pub refused : Check → Option ℕ
-refused Check.Passed = none
-refused (Check.Refused why) = some (number why)
+abbrev pub refused : {A : Type 0} → Result A Refusal → Option ℕ
+refused r = refused_by number r
 
--- a scan after a call: the number of the refusal, and the scan
-abbrev pub answered : Changed → Option ℕ × Scan
-answered r = (refused r.check, r.scan)
+-- a scan after a call: none and the scan, or the number of the refusal and the scan given
+abbrev pub answered : (given : Scan) → Result Scan Refusal → Option ℕ × Scan
+answered given r = left_by number given r
+
+-- a clock's refusal as one of this crate, with the same number
+abbrev pub by_clock : clocks.Refusal → Refusal
+by_clock clocks.Refusal.Time = Refusal.Time
+by_clock clocks.Refusal.Rate = Refusal.Scan
+by_clock clocks.Refusal.Clock = Refusal.Clock
 
 -- inversion lines: 0, or 3 to 33
 unfoldable pub lines_ok : ℕ → Bool
@@ -81,9 +84,9 @@ valid_scan x =
     && valid_inversion x.inversion
 
 -- the condition of number 5 on the scan's clock
-unfoldable pub valid_running : ScanClock → Rate → Bool
-valid_running (ScanClock.Running c) r = valid_clock c r
-valid_running ScanClock.Stopped r = true
+unfoldable pub valid_running : Option Clock → Rate → Bool
+valid_running (Some c) r = valid_clock c r
+valid_running None r = true
 
 -- numbers 4 and 5
 unfoldable pub check_scan : Scan → Option ℕ
@@ -103,23 +106,19 @@ in_order memory image time settings scan = first_of memory (first_of image (firs
 
 -- a call that takes a moment; `settings_ok` says what number 3 asks of its settings
 unfoldable pub check_moment : Scan → (settings_ok : Bool) → Time → Option ℕ
-check_moment x settings_ok now = in_order none none (row 1 (in_range now)) (row 3 settings_ok) (check_scan x)
+check_moment x settings_ok now = in_order None None (row 1 (in_range now)) (row 3 settings_ok) (check_scan x)
 
 -- a call that takes a moment and lent memory
 unfoldable pub check_lent : Scan → (settings_ok : Bool) → Time → (ram icons : List ℕ) → Option ℕ
 check_lent x settings_ok now ram icons =
-    in_order (row 2 (memory_ok ram icons)) none (row 1 (in_range now)) (row 3 settings_ok) (check_scan x)
+    in_order (row 2 (memory_ok ram icons)) None (row 1 (in_range now)) (row 3 settings_ok) (check_scan x)
 
 -- a call that takes lent memory and an image of so many bytes, and no scan
 unfoldable pub check_image : Settings → (ram icons : List ℕ) → (bytes : ℕ) → Option ℕ
 check_image s ram icons bytes =
-    in_order (row 2 (memory_ok ram icons)) (row 8 (image_ok bytes)) none (row 3 (valid_settings s)) none
+    in_order (row 2 (memory_ok ram icons)) (row 8 (image_ok bytes)) None (row 3 (valid_settings s)) None
 
 -- ---- no rules: for private functions of src/check.rt
--- the refusal of a scan's check, by its number: 0 where it passes
-abbrev pub refusal_of : ℕ → Option ℕ
-refusal_of n = cond (n == 0) none (cond (n == 4) (some 4) (some 5))
-
 -- the checks of a call that takes a moment, but for the clock's, number 5
 unfoldable pub check_but_clock : Scan → (settings_ok : Bool) → Time → Option ℕ
-check_but_clock x settings_ok now = in_order none none (row 1 (in_range now)) (row 3 settings_ok) (row 4 (valid_scan x))
+check_but_clock x settings_ok now = in_order None None (row 1 (in_range now)) (row 3 settings_ok) (row 4 (valid_scan x))

@@ -1,12 +1,12 @@
 -- Definitions that contracts of src/closed.rt cite: n quanta at once by division and remainder. Nothing here is a rule; that it
 -- comes to n quanta one after another is a law (proofs/Quanta.antt).
-use Rattle.std.specs.Prelude.{ℕ, zero, suc, ◌+◌, ◌/◌, ◌%◌, Bool, false, cond, not, ◌==◌}
+use Rattle.std.specs.Prelude.{ℕ, zero, suc, ◌+◌, ◌/◌, ◌%◌, Bool, false, cond, not, ◌==◌, Option, None, Some}
 use Rattle.clock.specs.declared.rate.Rate.{Rate}
 use Rattle.clock.specs.Rate.{same_rate}
 use Rattle.clock.specs.Edges.{started, moved_by}
+use Rattle.clock.specs.declared.edges.Clock.{Clock}
 use Rattle.scan.specs.declared.settings.Settings.{Settings}
 use Rattle.scan.specs.declared.state.Scan.{Scan}
-use Rattle.scan.specs.declared.state.ScanClock.{ScanClock}
 use Rattle.scan.specs.declared.state.Ticking.{Ticking}
 use Rattle.scan.specs.declared.state.Inversion.{Inversion}
 use Rattle.scan.specs.Settings.{pwm_of, frc_count_of, frame_of}
@@ -19,10 +19,10 @@ quanta zero x s = x
 quanta (suc n) x s = quantum (quanta n x s) s
 
 -- n edges further at rate r; where the rate then is another, a new clock starts at the last of them
-unfoldable pub ticked_by : ℕ → ScanClock → Rate → (new : Rate) → ScanClock
-ticked_by n (ScanClock.Running c) r new =
-    cond (same_rate r new) (ScanClock.Running (moved_by c r n)) (ScanClock.Running (started (moved_by c r n).at new))
-ticked_by n ScanClock.Stopped r new = ScanClock.Stopped
+unfoldable pub ticked_by : ℕ → Option Clock → Rate → (new : Rate) → Option Clock
+ticked_by n (Some c) r new =
+    cond (same_rate r new) (Some (moved_by c r n)) (Some (started (moved_by c r n).at new))
+ticked_by n None r new = None
 
 -- b after n flips
 abbrev pub flipped : Bool → ℕ → Bool

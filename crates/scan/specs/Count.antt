@@ -1,27 +1,27 @@
 -- Document 01, 'Scan': the scan counted to a moment, and counted in pieces.
-use Rattle.std.specs.Prelude.{ℕ, zero, suc, ◌+◌, ◌-◌, ◌*◌, Bool, false, cond, not, ◌&&◌, ◌==◌, nat_le}
+use Rattle.std.specs.Prelude.{ℕ, zero, suc, ◌+◌, ◌-◌, ◌*◌, Bool, false, cond, not, ◌&&◌, ◌==◌, nat_le, Option, None, Some, Result, Ok, Err}
 use Rattle.std.specs.Bool.{beq}
-use Rattle.std.proofs.Math.Option.{Option}
 use Rattle.checks.specs.Checks.{changed}
 use Rattle.clock.specs.declared.time.Time.{Time}
 use Rattle.clock.specs.declared.rate.Rate.{Rate}
 use Rattle.clock.specs.Time.{raw}
 use Rattle.clock.specs.Rate.{same_rate}
 use Rattle.clock.specs.Edges.{moved_by}
+use Rattle.clock.specs.declared.edges.Clock.{Clock}
 use Rattle.scan.specs.declared.settings.Settings.{Settings}
 use Rattle.scan.specs.declared.settings.Frame.{Frame}
 use Rattle.scan.specs.declared.state.Scan.{Scan}
-use Rattle.scan.specs.declared.state.ScanClock.{ScanClock}
 use Rattle.scan.specs.declared.count.Counted.{Counted}
+use Rattle.scan.specs.declared.check.Refusal.{Refusal}
 use Rattle.scan.specs.Settings.{pwm_of, frame_of, rate_of}
 use Rattle.scan.specs.State.{rows}
-use Rattle.scan.specs.Check.{refused, valid_settings, check_moment}
+use Rattle.scan.specs.Check.{number, valid_settings, check_moment}
 use Rattle.scan.specs.Quantum.{quantum}
 
 -- the next edge is not later than now
-unfoldable pub due_at : ScanClock → Rate → Time → Bool
-due_at (ScanClock.Running c) r now = nat_le (raw (moved_by c r 1).at) (raw now)
-due_at ScanClock.Stopped r now = false
+unfoldable pub due_at : Option Clock → Rate → Time → Bool
+due_at (Some c) r now = nat_le (raw (moved_by c r 1).at) (raw now)
+due_at None r now = false
 
 unfoldable pub due : Scan → Time → Bool
 due x now = due_at x.ticking.clock x.ticking.rate now
@@ -83,9 +83,10 @@ pieces_for (suc k) x s now = cond (due x now) (suc (pieces_for k (piece x s now)
 unfoldable pub pieces : Scan → Settings → Time → ℕ
 pieces x s now = pieces_for (raw now + 4) x s now
 
--- the answer: the number of the refusal, the scan and the pieces
-abbrev pub answered_count : Counted → Option ℕ × (Scan × ℕ)
-answered_count r = (refused r.check, (r.scan, r.pieces))
+-- the answer: the number of the refusal, the scan and the pieces. A refusal gives back the scan given
+abbrev pub answered_count : (given : Scan) → Result Counted Refusal → Option ℕ × (Scan × ℕ)
+answered_count given (Ok counted) = (None, (counted.scan, counted.pieces))
+answered_count given (Err why) = (Some (number why), (given, 0))
 
 -- the call; a refusal gives back the scan given
 unfoldable pub count_scan : Scan → Settings → Time → Option ℕ × (Scan × ℕ)

@@ -1,20 +1,17 @@
 -- Document 01, 'Drive, electrodes, image': when the scan runs and the glass is driven, what it is driven with, and the level of
 -- each electrode.
-use Rattle.std.specs.Prelude.{ℕ, ◌+◌, ◌-◌, ◌*◌, ◌/◌, ◌%◌, ◌^◌, Bool, false, cond, not, ◌&&◌, List, [], ◌∷◌, ◌==◌, nat_le, nat_lt, slice_index}
-use Rattle.std.proofs.Math.Option.{Option, none, some}
+use Rattle.std.specs.Prelude.{ℕ, ◌+◌, ◌-◌, ◌*◌, ◌/◌, ◌%◌, ◌^◌, Bool, false, cond, not, ◌&&◌, List, [], ◌∷◌, ◌==◌, nat_le, nat_lt, slice_index, Option, None, Some, Result, Ok, Err}
 use Rattle.checks.specs.Checks.{changed}
 use Rattle.clock.specs.declared.time.Time.{Time}
-use Rattle.voltage.specs.declared.Level.{Level}
 use Rattle.voltage.specs.declared.LcdVoltages.{LcdVoltages}
 use Rattle.voltage.specs.Voltage.{voltages}
 use Rattle.scan.specs.declared.settings.Settings.{Settings}
 use Rattle.scan.specs.declared.state.Scan.{Scan}
 use Rattle.scan.specs.declared.drive.Conditions.{Conditions}
-use Rattle.scan.specs.declared.drive.Common.{Common}
 use Rattle.scan.specs.declared.drive.LcdDrive.{LcdDrive}
 use Rattle.scan.specs.declared.drive.Driven.{Driven}
-use Rattle.scan.specs.declared.drive.Electrode.{Electrode}
-use Rattle.scan.specs.Check.{refused, valid_settings, check_lent}
+use Rattle.scan.specs.declared.check.Refusal.{Refusal}
+use Rattle.scan.specs.Check.{number, valid_settings, check_lent}
 use Rattle.scan.specs.Count.{count_to}
 use Rattle.scan.specs.Latch.{shown}
 use Rattle.voltage.specs.declared.Settings as analog
@@ -46,7 +43,7 @@ common_of x =
 
 -- no common selected and no segment active
 abbrev pub unselected : LcdVoltages → (grounded : Bool) → LcdDrive
-unselected v at_ground = record { common = Common.None; segments = 0 ∷ 0 ∷ []; inverted = false; voltages = v; grounded = at_ground }
+unselected v at_ground = record { common = None; segments = 0 ∷ 0 ∷ []; inverted = false; voltages = v; grounded = at_ground }
 
 unfoldable pub undriven : Conditions → LcdVoltages → LcdDrive
 undriven c v = unselected v (grounded c)
@@ -54,7 +51,7 @@ undriven c v = unselected v (grounded c)
 -- the drive of a scan counted to the moment
 unfoldable pub drive_of : Scan → Settings → LcdVoltages → (ram icons : List ℕ) → LcdDrive
 drive_of x s v ram icons =
-    record { common = Common.Selected (common_of x); segments = shown x s ram icons; inverted = x.inversion.inverted; voltages = v; grounded = false }
+    record { common = Some (common_of x); segments = shown x s ram icons; inverted = x.inversion.inverted; voltages = v; grounded = false }
 
 unfoldable pub drive_at : Scan → Settings → LcdVoltages → Conditions → Time → (ram icons : List ℕ) → LcdDrive
 drive_at x s v c now ram icons = cond (driven c) (drive_of (count_to x s now) s v ram icons) (undriven c v)
@@ -70,9 +67,10 @@ frame_at x s c now = cond (driven c) (quanta_of (count_to x s now)) 0
 unfoldable pub off : LcdDrive
 off = unselected supplies.off false
 
--- the answer: the number of the refusal, the drive and the frame
-abbrev pub answered_drive : Driven → Option ℕ × (LcdDrive × ℕ)
-answered_drive r = (refused r.check, (r.drive, r.frame))
+-- the answer: the number of the refusal, the drive and the frame. A refusal gives the undriven drive
+abbrev pub answered_drive : Result Driven Refusal → Option ℕ × (LcdDrive × ℕ)
+answered_drive (Ok driven) = (None, (driven.drive, driven.frame))
+answered_drive (Err why) = (Some (number why), (off, 0))
 
 -- the call; both groups of settings have number 3
 unfoldable pub drive_scan : Scan → Settings → analog.Settings → Conditions → Time → (ram icons : List ℕ) → Option ℕ × (LcdDrive × ℕ)
@@ -81,46 +79,34 @@ drive_scan x s a c now ram icons =
     (drive_at x s (voltages a c.supply) c now ram icons, frame_at x s c now)
     (off, 0)
 
--- an electrode's microvolts, or none
-abbrev pub microvolts : Electrode → Option ℕ
-microvolts (Electrode.Microvolts v) = some v
-microvolts Electrode.None = none
-
--- an absent level gives none
-abbrev pub level_microvolts : Level → Option ℕ
-level_microvolts (Level.Microvolts v) = some v
-level_microvolts Level.Absent = none
-
--- the selected common is at V0, inverted 0; other commons V4, inverted V1
+-- the selected common is at V0, inverted 0; other commons V4, inverted V1. An absent level gives none
 unfoldable pub common_level : LcdVoltages → (selected inverted : Bool) → Option ℕ
 common_level v selected inverted =
-    cond selected (cond inverted (some 0) (level_microvolts v.v0))
-    (cond inverted (level_microvolts v.v1) (level_microvolts v.v4))
+    cond selected (cond inverted (Some 0) v.v0) (cond inverted v.v1 v.v4)
 
 -- active segments 0, inverted V0; others V3, inverted V2
 unfoldable pub segment_level : LcdVoltages → (active inverted : Bool) → Option ℕ
 segment_level v active inverted =
-    cond active (cond inverted (level_microvolts v.v0) (some 0))
-    (cond inverted (level_microvolts v.v2) (level_microvolts v.v3))
+    cond active (cond inverted v.v0 (Some 0)) (cond inverted v.v2 v.v3)
 
 -- bit n % 64 of word n / 64 is segment n
 unfoldable pub active_in : List ℕ → (segment : ℕ) → Bool
 active_in words segment = slice_index words (segment / 64) / 2 ^ (segment % 64) % 2 == 1
 
 -- none is driven without a selected common
-unfoldable pub common_with : LcdDrive → (common : ℕ) → Common → Option ℕ
-common_with d common (Common.Selected n) = common_level d.voltages (n == common) d.inverted
-common_with d common Common.None = none
+unfoldable pub common_with : LcdDrive → (common : ℕ) → (selected : Option ℕ) → Option ℕ
+common_with d common (Some n) = common_level d.voltages (n == common) d.inverted
+common_with d common None = None
 
-unfoldable pub segment_with : LcdDrive → (segment : ℕ) → Common → Option ℕ
-segment_with d segment (Common.Selected n) = segment_level d.voltages (active_in d.segments segment) d.inverted
-segment_with d segment Common.None = none
+unfoldable pub segment_with : LcdDrive → (segment : ℕ) → (selected : Option ℕ) → Option ℕ
+segment_with d segment (Some n) = segment_level d.voltages (active_in d.segments segment) d.inverted
+segment_with d segment None = None
 
 -- an electrode beyond common 128 or segment 127 has the answer none; grounded electrodes are at 0
 unfoldable pub common_microvolts : LcdDrive → (common : ℕ) → Option ℕ
 common_microvolts d common =
-    cond (nat_lt 128 common) none (cond d.grounded (some 0) (common_with d common d.common))
+    cond (nat_lt 128 common) None (cond d.grounded (Some 0) (common_with d common d.common))
 
 unfoldable pub segment_microvolts : LcdDrive → (segment : ℕ) → Option ℕ
 segment_microvolts d segment =
-    cond (nat_lt 127 segment) none (cond d.grounded (some 0) (segment_with d segment d.common))
+    cond (nat_lt 127 segment) None (cond d.grounded (Some 0) (segment_with d segment d.common))

@@ -1,31 +1,21 @@
 -- Which bytes take the fast path (src/fast.rt): those that leave the settings as they are, pass every check, need no more than
 -- a count with every setting in force, and leave nothing to be begun, ended, started or dropped. What such a byte leaves is by
 -- the rule, `byte_scan` (Run.antt); of any other byte the answer says only that it is another.
-use Rattle.std.specs.Prelude.{ℕ, ◌+◌, ◌/◌, ◌%◌, Bool, true, false, cond, not, ◌&&◌, ◌||◌, List}
+use Rattle.std.specs.Prelude.{ℕ, ◌+◌, ◌/◌, ◌%◌, Bool, false, cond, not, ◌&&◌, ◌||◌, List, Option, None, Some}
 use Rattle.clock.specs.declared.time.Time.{Time}
 use Rattle.clock.specs.declared.edges.Clock.{Clock}
 use Rattle.clock.specs.Time.{in_range}
 use Rattle.scan.specs.declared.settings.Settings.{Settings}
 use Rattle.scan.specs.declared.state.Scan.{Scan}
-use Rattle.scan.specs.declared.state.ScanClock.{ScanClock}
 use Rattle.scan.specs.declared.state.Ticking.{Ticking}
 use Rattle.scan.specs.declared.state.Inversion.{Inversion}
-use Rattle.scan.specs.declared.latch.DataPage.{DataPage}
 use Rattle.scan.specs.declared.run.Running.{Running}
-use Rattle.scan.specs.declared.fast.FastScan.{FastScan}
 use Rattle.scan.specs.Check.{valid_settings, valid_scan, valid_running, memory_ok}
 use Rattle.scan.specs.State.{rows}
 use Rattle.scan.specs.Count.{due, count_to, row_same, frame_same, rate_same}
 use Rattle.scan.specs.Run.{byte_scan}
 use Rattle.scan.specs.Byte.{settled}
 use Rattle.scan.specs.Closed.{flipped, flips_in, count_in, ended_rows}
-
--- a byte of the fast path with the scan after it, and another byte with the scan given
-abbrev pub by_fast : Scan → FastScan
-by_fast x = record { fast = true; scan = x }
-
-abbrev pub not_fast : Scan → FastScan
-not_fast x = record { fast = false; scan = x }
 
 -- no end of a row or frame takes another setting, and the rate is that of the settings
 abbrev pub in_force : Scan → Settings → Bool
@@ -36,8 +26,8 @@ unfoldable pub one_count : Scan → Settings → Time → Bool
 one_count x s now = valid_running x.ticking.clock x.ticking.rate && (not (due x now) || in_force x s)
 
 -- the scan counted to now where that is so
-unfoldable pub counted_fast : Scan → Settings → Time → FastScan
-counted_fast x s now = cond (one_count x s now) (by_fast (count_to x s now)) (not_fast x)
+unfoldable pub counted_fast : Scan → Settings → Time → Option Scan
+counted_fast x s now = cond (one_count x s now) (Some (count_to x s now)) None
 
 -- every check but that of the clock passes
 unfoldable pub checks_pass : Scan → Settings → Time → (ram icons : List ℕ) → Bool
@@ -47,10 +37,10 @@ unfoldable pub is_fast : Scan → Settings → Time → Running → (ram icons :
 is_fast x s now running ram icons =
     checks_pass x s now ram icons && (one_count x s now && settled (count_to x s now) s running)
 
--- the scan after the byte, by the rule
-unfoldable pub fast_byte : Scan → Settings → Time → DataPage → Running → (ram icons : List ℕ) → FastScan
+-- the scan after the byte, by the rule; none of a byte that does not take the fast path
+unfoldable pub fast_byte : Scan → Settings → Time → Option ℕ → Running → (ram icons : List ℕ) → Option Scan
 fast_byte x s now page running ram icons =
-    cond (is_fast x s now running ram icons) (by_fast (byte_scan x s s now page running ram icons).1) (not_fast x)
+    cond (is_fast x s now running ram icons) (Some (byte_scan x s s now page running ram icons).1) None
 
 -- ---- no rules: a count with every setting in force, as src/fast.rt makes it
 -- the inversion e ended rows and f ended frames later, its lines in force
@@ -76,7 +66,7 @@ onward x k b t r e f = record {
 
 -- e row ends later at step t, with a clock moved on at the same rate, and n quanta later
 unfoldable pub rows_on : Scan → Clock → (t e : ℕ) → Scan
-rows_on x c t e = onward x (record { clock = ScanClock.Running c; rate = x.ticking.rate }) false t ((x.row + e) % rows x) e ((x.row + e) / rows x)
+rows_on x c t e = onward x (record { clock = Some c; rate = x.ticking.rate }) false t ((x.row + e) % rows x) e ((x.row + e) / rows x)
 
 unfoldable pub moved_on : Scan → Clock → ℕ → Scan
 moved_on x c n = rows_on x c ((x.step + n) % x.pwm) (ended_rows x n)
@@ -84,7 +74,7 @@ moved_on x c n = rows_on x c ((x.step + n) % x.pwm) (ended_rows x n)
 -- the scan with this clock and these counters
 abbrev pub with_counters : Scan → Clock → (t r f : ℕ) → Inversion → Scan
 with_counters x c t r f i = record {
-  ticking = record { clock = ScanClock.Running c; rate = x.ticking.rate };
+  ticking = record { clock = Some c; rate = x.ticking.rate };
   latch = record { segments = x.latch.segments; latched = false };
   frame = x.frame;
   pwm = x.pwm;

@@ -1,8 +1,7 @@
 -- Document 01, 'Scan': the latch of 128 segments, what is shown of it, and when it is retained.
-use Rattle.std.specs.Prelude.{ℕ, zero, suc, ◌+◌, ◌*◌, ◌/◌, ◌%◌, Bool, true, cond, not, ◌&&◌, ◌||◌, List, [], ◌∷◌, ◌==◌, nat_lt}
+use Rattle.std.specs.Prelude.{ℕ, zero, suc, ◌+◌, ◌*◌, ◌/◌, ◌%◌, Bool, true, cond, not, ◌&&◌, ◌||◌, List, [], ◌∷◌, ◌==◌, nat_lt, Option, Some, None}
 use Rattle.scan.specs.declared.settings.Settings.{Settings}
 use Rattle.scan.specs.declared.state.Scan.{Scan}
-use Rattle.scan.specs.declared.latch.DataPage.{DataPage}
 use Rattle.scan.specs.State.{with_latch}
 use Rattle.scan.specs.Shade.{shade_at, pulse_width}
 
@@ -39,14 +38,14 @@ unfoldable pub shown : Scan → Settings → (ram icons : List ℕ) → List ℕ
 shown x s ram icons = cond x.latch.latched x.latch.segments (present_latch x s ram icons)
 
 -- whether a change could alter a row, as `retain_latch` has it: a data byte alters the rows of its page, a command any row
-unfoldable pub affects : DataPage → (row : ℕ) → Bool
-affects DataPage.None row = true
-affects (DataPage.Page page) row = cond (page == 16) (row == 128) (not (row == 128) && row / 8 == page % 16)
+unfoldable pub affects : (page : Option ℕ) → (row : ℕ) → Bool
+affects None row = true
+affects (Some page) row = cond (page == 16) (row == 128) (not (row == 128) && row / 8 == page % 16)
 
 -- the scan with the latch of present memory and settings retained
 unfoldable pub latch_retained : Scan → Settings → (ram icons : List ℕ) → Scan
 latch_retained x s ram icons = with_latch x (record { segments = present_latch x s ram icons; latched = true })
 
 -- the latch is retained before a change (document 01: kept) that could alter the row being shown
-unfoldable pub retained : Scan → Settings → DataPage → (ram icons : List ℕ) → Scan
+unfoldable pub retained : Scan → Settings → (page : Option ℕ) → (ram icons : List ℕ) → Scan
 retained x s page ram icons = cond (x.latch.latched || not (affects page (latched_row x))) x (latch_retained x s ram icons)

@@ -13,7 +13,3 @@ levels_of s = level_of s (shown_shade s 0) ∷ level_of s (shown_shade s 1) ∷ 
 -- the levels of a row's segments, from its bits and from those of the planes
 abbrev pub row_level : (levels bits : List ℕ) → (reversed : Bool) → (segment : ℕ) → ℕ
 row_level levels bits reversed segment = slice_index levels (planes_in bits (column_of reversed segment))
-
--- a pixel that shows nothing
-abbrev pub dark : (x : ℕ) → ℕ
-dark x = 0

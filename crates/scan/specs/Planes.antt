@@ -28,15 +28,17 @@ in_high bits reversed segment = slice_index bits (2 * column_of reversed segment
 abbrev pub in_low : (bits : List ℕ) → (reversed : Bool) → (segment : ℕ) → Bool
 in_low bits reversed segment = slice_index bits (2 * column_of reversed segment + 1) == 1
 
--- bits as digits of base 256
-abbrev pub two_from : (bits : List ℕ) → (from : ℕ) → ℕ
-two_from bits from = slice_index bits from + slice_index bits (from + 1) * 256
-
-abbrev pub four_from : (bits : List ℕ) → (from : ℕ) → ℕ
-four_from bits from = two_from bits from + two_from bits (from + 2) * 65536
-
+-- eight bits as digits of base 256
 abbrev pub eight_from : (bits : List ℕ) → (from : ℕ) → ℕ
-eight_from bits from = four_from bits from + four_from bits (from + 4) * 4294967296
+eight_from bits from =
+    slice_index bits from
+    + slice_index bits (from + 1) * 256
+    + slice_index bits (from + 2) * 65536
+    + slice_index bits (from + 3) * 16777216
+    + slice_index bits (from + 4) * 4294967296
+    + slice_index bits (from + 5) * 1099511627776
+    + slice_index bits (from + 6) * 281474976710656
+    + slice_index bits (from + 7) * 72057594037927936
 
 -- both planes of eight segments, the high one in the lower byte
 unfoldable pub planes_from : (bits : List ℕ) → (reversed : Bool) → (segment : ℕ) → ℕ

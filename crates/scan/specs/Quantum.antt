@@ -1,12 +1,12 @@
 -- Document 01, 'Scan, one quantum at a time'.
-use Rattle.std.specs.Prelude.{ℕ, ◌+◌, ◌%◌, Bool, false, cond, not, ◌&&◌, ◌==◌, nat_le}
+use Rattle.std.specs.Prelude.{ℕ, ◌+◌, ◌%◌, Bool, false, cond, not, ◌&&◌, ◌==◌, nat_le, Option, None, Some}
 use Rattle.clock.specs.declared.rate.Rate.{Rate}
 use Rattle.clock.specs.Rate.{same_rate}
 use Rattle.clock.specs.Edges.{started, moved_by}
+use Rattle.clock.specs.declared.edges.Clock.{Clock}
 use Rattle.scan.specs.declared.settings.Settings.{Settings}
 use Rattle.scan.specs.declared.settings.Frame.{Frame}
 use Rattle.scan.specs.declared.state.Scan.{Scan}
-use Rattle.scan.specs.declared.state.ScanClock.{ScanClock}
 use Rattle.scan.specs.declared.state.Ticking.{Ticking}
 use Rattle.scan.specs.declared.state.Inversion.{Inversion}
 use Rattle.scan.specs.Settings.{pwm_of, frc_count_of, frame_of, rows_in, rate_of}
@@ -45,10 +45,10 @@ unfoldable pub frame_after : Scan → Settings → Frame
 frame_after x s = cond (frame_ends x) (frame_of s) x.frame
 
 -- an edge further at rate r; where the rate then is another, a new clock starts at that edge
-unfoldable pub ticked : ScanClock → Rate → (new : Rate) → ScanClock
-ticked (ScanClock.Running c) r new =
-    cond (same_rate r new) (ScanClock.Running (moved_by c r 1)) (ScanClock.Running (started (moved_by c r 1).at new))
-ticked ScanClock.Stopped r new = ScanClock.Stopped
+unfoldable pub ticked : Option Clock → Rate → (new : Rate) → Option Clock
+ticked (Some c) r new =
+    cond (same_rate r new) (Some (moved_by c r 1)) (Some (started (moved_by c r 1).at new))
+ticked None r new = None
 
 -- at the end of the quantum the rate of the present settings and the rows then held is the scan's
 unfoldable pub ticked_to : Ticking → Rate → Ticking

@@ -2,16 +2,14 @@
 -- counted and its latch retained where the byte could alter it; after it the inversion is cleared, the scan begun, its clock
 -- started or dropped. A warm rise does the same but begins no scan, so that it reads no memory. A fall counts and drops the
 -- clock.
-use Rattle.std.specs.Prelude.{ℕ, ◌%◌, Bool, true, false, cond, ◌&&◌, List, [], ◌∷◌, ◌==◌}
-use Rattle.std.proofs.Math.Option.{Option}
+use Rattle.std.specs.Prelude.{ℕ, ◌%◌, Bool, true, false, cond, ◌&&◌, List, [], ◌∷◌, ◌==◌, Option, None, Some}
 use Rattle.checks.specs.Checks.{changed}
 use Rattle.clock.specs.declared.time.Time.{Time}
 use Rattle.clock.specs.Edges.{started}
+use Rattle.clock.specs.declared.edges.Clock.{Clock}
 use Rattle.scan.specs.declared.settings.Settings.{Settings}
 use Rattle.scan.specs.declared.state.Scan.{Scan}
-use Rattle.scan.specs.declared.state.ScanClock.{ScanClock}
 use Rattle.scan.specs.declared.state.Inversion.{Inversion}
-use Rattle.scan.specs.declared.latch.DataPage.{DataPage}
 use Rattle.scan.specs.declared.run.Running.{Running}
 use Rattle.scan.specs.Settings.{pwm_of, frame_of, rows_in, rate_of}
 use Rattle.scan.specs.State.{rows, with_ticking, with_inversion}
@@ -34,7 +32,7 @@ cleared x s = with_inversion x (cond (s.inversion_lines == 0) (no_lines x.invers
 -- every setting taken; row, step, phase, count and polarity 0. The clock is missing, as in the Rust's `Scan::default`
 unfoldable pub taken : Settings → Scan
 taken s = record {
-  ticking = record { clock = ScanClock.Stopped; rate = rate_of s (rows_in (frame_of s)) };
+  ticking = record { clock = None; rate = rate_of s (rows_in (frame_of s)) };
   latch = record { segments = 0 ∷ 0 ∷ []; latched = true };
   frame = frame_of s;
   pwm = pwm_of s.gray_mode;
@@ -50,13 +48,13 @@ begun s ram icons = latch_retained (taken s) s ram icons
 
 -- a scan whose clock is dropped; the counters stay
 unfoldable pub stopped : Scan → Scan
-stopped x = with_ticking x (record { clock = ScanClock.Stopped; rate = x.ticking.rate })
+stopped x = with_ticking x (record { clock = None; rate = x.ticking.rate })
 
 -- a missing clock starts now, and the scan takes the rate of its rows and present settings
-unfoldable pub started_if : ScanClock → Scan → Settings → Time → Scan
-started_if (ScanClock.Running c) x s now = x
-started_if ScanClock.Stopped x s now =
-    with_ticking x (record { clock = ScanClock.Running (started now (rate_of s (rows x))); rate = rate_of s (rows x) })
+unfoldable pub started_if : Option Clock → Scan → Settings → Time → Scan
+started_if (Some c) x s now = x
+started_if None x s now =
+    with_ticking x (record { clock = Some (started now (rate_of s (rows x))); rate = rate_of s (rows x) })
 
 -- the clock of a scan that runs: dropped with oscillator control bit 0
 unfoldable pub clocked : Scan → Settings → Time → Scan
@@ -73,7 +71,7 @@ updated x s now Running.Continues ram icons = resumed x s now true
 updated x s now Running.Stands ram icons = resumed x s now false
 
 -- the calls; a refusal gives back the scan given
-unfoldable pub before_byte : Scan → Settings → Time → DataPage → (ram icons : List ℕ) → Option ℕ × Scan
+unfoldable pub before_byte : Scan → Settings → Time → Option ℕ → (ram icons : List ℕ) → Option ℕ × Scan
 before_byte x s now page ram icons =
     changed (check_lent x (valid_settings s) now ram icons) (retained (count_to x s now) s page ram icons) x
 
@@ -82,7 +80,7 @@ after_byte x s now running ram icons =
     changed (check_lent x (valid_settings s) now ram icons) (updated x s now running ram icons) x
 
 -- both at once, by the settings that the byte found and those that it left
-unfoldable pub byte_scan : Scan → (before after : Settings) → Time → DataPage → Running → (ram icons : List ℕ) → Option ℕ × Scan
+unfoldable pub byte_scan : Scan → (before after : Settings) → Time → Option ℕ → Running → (ram icons : List ℕ) → Option ℕ × Scan
 byte_scan x before after now page running ram icons =
     changed (check_lent x (valid_settings before && valid_settings after) now ram icons)
     (updated (retained (count_to x before now) before page ram icons) after now running ram icons) x

@@ -1,7 +1,6 @@
 -- The scan's state (document 01, 'Scan'): its rows, the state with one group replaced, and the scan at power-on.
-use Rattle.std.specs.Prelude.{ℕ, true, false, [], ◌∷◌}
+use Rattle.std.specs.Prelude.{ℕ, true, false, [], ◌∷◌, None}
 use Rattle.scan.specs.declared.state.Scan.{Scan}
-use Rattle.scan.specs.declared.state.ScanClock.{ScanClock}
 use Rattle.scan.specs.declared.state.Ticking.{Ticking}
 use Rattle.scan.specs.declared.state.Inversion.{Inversion}
 use Rattle.scan.specs.declared.state.Latch.{Latch}
@@ -51,7 +50,7 @@ with_latch x l = record {
 -- the scan at power-on
 unfoldable pub power_on : Scan
 power_on = record {
-  ticking = record { clock = ScanClock.Stopped; rate = record { numerator = 129024; denominator = 1 } };
+  ticking = record { clock = None; rate = record { numerator = 129024; denominator = 1 } };
   latch = record { segments = 0 ∷ 0 ∷ []; latched = true };
   frame = record {
     duty = 128;

@@ -1,7 +1,6 @@
 -- Definitions that contracts of src/stretch.rt cite: the quanta for which the clock is asked once, at one rate. Nothing here is a
 -- rule; that stretches come to the count of the rule is a law (proofs/Stretches.antt).
-use Rattle.std.specs.Prelude.{◌≡◌, ℕ, ◌+◌, ◌<◌, min, Bool, true, cond, ◌&&◌}
-use Rattle.std.proofs.Math.Option.{Option}
+use Rattle.std.specs.Prelude.{◌≡◌, ℕ, ◌+◌, ◌<◌, min, Bool, true, cond, ◌&&◌, Option, None, Some}
 use Rattle.checks.specs.Checks.{row, changed}
 use Rattle.clock.specs.declared.time.Time.{Time}
 use Rattle.clock.specs.declared.rate.Rate.{Rate}
@@ -11,7 +10,6 @@ use Rattle.clock.specs.Rate.{same_rate}
 use Rattle.clock.specs.Edges.{started, edges_to}
 use Rattle.scan.specs.declared.settings.Settings.{Settings}
 use Rattle.scan.specs.declared.state.Scan.{Scan}
-use Rattle.scan.specs.declared.state.ScanClock.{ScanClock}
 use Rattle.scan.specs.declared.state.Ticking.{Ticking}
 use Rattle.scan.specs.declared.stretch.Run.{Run}
 use Rattle.scan.specs.Settings.{frame_of, rows_in, rate_of}
@@ -25,9 +23,9 @@ abbrev pub limit_in : Scan → Settings → ℕ
 limit_in x s = limit_with x s 18446744073709551615
 
 -- the edges of a clock up to now
-unfoldable pub edges_in : ScanClock → Rate → Time → ℕ
-edges_in (ScanClock.Running c) r now = edges_to c r now
-edges_in ScanClock.Stopped r now = 0
+unfoldable pub edges_in : Option Clock → Rate → Time → ℕ
+edges_in (Some c) r now = edges_to c r now
+edges_in None r now = 0
 
 -- the rate is that of the settings with the rows held, and with those that a frame end would take
 unfoldable pub rate_stays : Scan → Settings → Bool
@@ -44,7 +42,7 @@ stretch x s now = min (edges_in x.ticking.clock x.ticking.rate now) (stretch_lim
 -- a new clock starts there
 abbrev pub ticked_on : Scan → Settings → ℕ → (moved : Clock) → Ticking
 ticked_on x s n moved = record {
-  clock = cond (same_rate x.ticking.rate (rate_of s (rows (quanta n x s)))) (ScanClock.Running moved) (ScanClock.Running (started moved.at (rate_of s (rows (quanta n x s)))));
+  clock = cond (same_rate x.ticking.rate (rate_of s (rows (quanta n x s)))) (Some moved) (Some (started moved.at (rate_of s (rows (quanta n x s)))));
   rate = rate_of s (rows (quanta n x s));
 }
 

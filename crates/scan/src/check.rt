@@ -1,15 +1,15 @@
 // The checks of settings, scan and lent memory, and the table's order: document 01, 'Where a call is
 // turned down', numbers 2, 8, 1, 3, 4 and 5.
 ghost use Rattle.std.specs.Prelude.{◌≡◌, true};
-ghost use Rattle.checks.specs.Checks.{row, first_of};
-ghost use Rattle.scan.specs.Check.{number, refused, lines_ok, valid_settings, valid_frame, frc_count_ok, pwm_ok, valid_inversion, valid_scan, check_scan, memory_ok, image_ok, in_order, check_moment, check_lent, check_image, refusal_of, check_but_clock};
+ghost use Rattle.scan.specs.Check.{number as number_of, by_clock, refused, lines_ok, valid_settings, valid_frame, valid_inversion, valid_scan, check_scan, memory_ok, image_ok, check_moment, check_lent, check_image, check_but_clock};
 
 use crate::settings::{Frame, Settings, rows_in};
-use crate::state::{Inversion, Scan, ScanClock};
+use crate::state::{Inversion, Scan};
+use checks::Numbered;
 use clock::Time;
 
-// Why a call is turned down: `number` of specs/Check.antt gives each its number.
-#[derive(Clone, Copy)]
+// Why a call is turned down.
+#[derive(Clone, Copy, Debug, PartialEq, Eq)]
 pub enum Refusal {
     Memory,
     Image,
@@ -19,44 +19,33 @@ pub enum Refusal {
     Clock,
 }
 
-#[derive(Clone, Copy)]
-pub enum Check {
-    Passed,
-    Refused(Refusal),
-}
+// The numbers of document 01's table.
+impl Numbered for Refusal {
+    ghost number = { number_of };
 
-// The scan after a call, or the refusal and the scan given.
-#[derive(Clone, Copy)]
-pub struct Changed {
-    pub check: Check,
-    pub scan: Scan,
-}
-
-// A row of the table.
-fn unless(ok: bool, why: Refusal) -> Check
-    ensures { refused result ≡ row (number why) ok }
-{
-    if ok {
-        return Check::Passed;
+    fn number(self) -> u64 {
+        match self {
+            Refusal::Memory => 2,
+            Refusal::Image => 8,
+            Refusal::Time => 1,
+            Refusal::Settings => 3,
+            Refusal::Scan => 4,
+            Refusal::Clock => 5,
+        }
     }
-    Check::Refused(why)
 }
 
-// The first refusal of two.
-fn first(a: Check, b: Check) -> Check
-    ensures { refused result ≡ first_of (refused a) (refused b) }
-{
-    let Check::Refused(why) = a else {
-        return b;
-    };
-    Check::Refused(why)
-}
+// A rate that is no LCD rate is number 4, as a scan's other conditions are.
+impl From<clock::Refusal> for Refusal {
+    ghost from_gives = { λ why given. given ≡ by_clock why };
 
-// The table's order; a row that a call does not name has passed.
-fn in_order(memory: Check, image: Check, time: Check, settings: Check, scan: Check) -> Check
-    ensures { refused result ≡ in_order (refused memory) (refused image) (refused time) (refused settings) (refused scan) }
-{
-    first(memory, first(image, first(time, first(settings, scan))))
+    fn from(why: clock::Refusal) -> Refusal {
+        match why {
+            clock::Refusal::Time => Refusal::Time,
+            clock::Refusal::Rate => Refusal::Scan,
+            clock::Refusal::Clock => Refusal::Clock,
+        }
+    }
 }
 
 // Inversion by frame, or every 3 to 33 lines.
@@ -82,19 +71,6 @@ impl Settings {
     }
 }
 
-// The check of a scan, by the number that `refusal` answers.
-fn check_of(number: u8) -> Check
-    ensures { refused result ≡ refusal_of number }
-{
-    if number == 0 {
-        return Check::Passed;
-    }
-    if number == 4 {
-        return Check::Refused(Refusal::Scan);
-    }
-    Check::Refused(Refusal::Clock)
-}
-
 // Whether the frame settings are in range.
 fn valid_frame(frame: Frame) -> bool
     ensures { result ≡ valid_frame frame }
@@ -117,44 +93,26 @@ impl Scan {
     pub(crate) fn valid(self) -> bool
         ensures { result ≡ valid_scan self }
     {
-        let ticking = self.ticking;
-        let rate = ticking.rate;
-        let frame = self.frame;
-        let inversion = self.inversion;
-        let pwm = self.pwm;
-        rate.is_lcd()
-            & valid_frame(frame)
-            & ((pwm == 9) | (pwm == 12) | (pwm == 15))
-            & (self.step < pwm)
-            & (self.frc < frame.frc_count)
-            & ((self.row as u16) < rows_in(frame))
-            & valid_inversion(inversion)
+        self.ticking.rate.is_lcd()
+            & valid_frame(self.frame)
+            & ((self.pwm == 9) | (self.pwm == 12) | (self.pwm == 15))
+            & (self.step < self.pwm)
+            & (self.frc < self.frame.frc_count)
+            & (u16::from(self.row) < rows_in(self.frame))
+            & valid_inversion(self.inversion)
     }
 
-    // Number 4, and number 5 of a clock that runs; 0 where neither applies. A number comes back in a
-    // register, an enum in memory that the caller would have to wait for.
-    fn refusal(self) -> u8
-        ensures { refusal_of result ≡ check_scan self }
-    {
-        if !self.valid() {
-            return 4;
-        }
-        let ticking = self.ticking;
-        let clock = ticking.clock;
-        let ScanClock::Running(running) = clock else {
-            return 0;
-        };
-        let rate = ticking.rate;
-        let clock::Check::Passed = running.check(rate) else {
-            return 5;
-        };
-        0
-    }
-
-    pub fn check(self) -> Check
+    // Number 4, and number 5 of a clock that runs.
+    pub fn check(self) -> Result<(), Refusal>
         ensures { refused result ≡ check_scan self }
     {
-        check_of(self.refusal())
+        if !self.valid() {
+            return Err(Refusal::Scan);
+        }
+        if let Some(clock) = self.ticking.clock {
+            clock.check(self.ticking.rate)?;
+        }
+        Ok(())
     }
 }
 
@@ -172,59 +130,74 @@ fn image_ok(bytes: usize) -> bool
     bytes == 6144
 }
 
-// The checks of a call that takes a moment. `settings_ok` says that number 3 does not apply.
-pub(crate) fn check_moment(scan: Scan, settings_ok: bool, now: Time) -> Check
-    ensures { refused result ≡ check_moment scan settings_ok now }
-{
-    let time = unless(now.in_range(), Refusal::Time);
-    let settings = unless(settings_ok, Refusal::Settings);
-    in_order(
-        Check::Passed,
-        Check::Passed,
-        time,
-        settings,
-        check_of(scan.refusal()),
-    )
-}
-
-// The same without number 5, for a call that asks the clock itself.
-pub(crate) fn check_but_clock(scan: Scan, settings_ok: bool, now: Time) -> Check
+// The checks of a call that takes a moment, but for number 5: some calls ask the clock themselves.
+// `settings_ok` says that number 3 does not apply.
+#[tactic(auto, unfolding(crate::specs::Check::check_but_clock, crate::specs::Check::in_order))]
+pub(crate) fn check_but_clock(scan: Scan, settings_ok: bool, now: Time) -> Result<(), Refusal>
     ensures { refused result ≡ check_but_clock scan settings_ok now }
 {
-    let time = unless(now.in_range(), Refusal::Time);
-    let settings = unless(settings_ok, Refusal::Settings);
-    let counters = unless(scan.valid(), Refusal::Scan);
-    in_order(Check::Passed, Check::Passed, time, settings, counters)
+    if !now.in_range() {
+        return Err(Refusal::Time);
+    }
+    if !settings_ok {
+        return Err(Refusal::Settings);
+    }
+    if !scan.valid() {
+        return Err(Refusal::Scan);
+    }
+    Ok(())
+}
+
+// The same with number 5.
+#[tactic(auto, unfolding(crate::specs::Check::check_moment, crate::specs::Check::in_order))]
+pub(crate) fn check_moment(scan: Scan, settings_ok: bool, now: Time) -> Result<(), Refusal>
+    ensures { refused result ≡ check_moment scan settings_ok now }
+{
+    if !now.in_range() {
+        return Err(Refusal::Time);
+    }
+    if !settings_ok {
+        return Err(Refusal::Settings);
+    }
+    scan.check()
 }
 
 // The checks of a call that takes a moment and lent memory.
+#[tactic(auto, unfolding(crate::specs::Check::check_lent, crate::specs::Check::check_moment, crate::specs::Check::in_order))]
 pub(crate) fn check_lent(
     scan: Scan,
     settings_ok: bool,
     moment: Time,
     ram: &[u8],
     icons: &[u8],
-) -> Check
+) -> Result<(), Refusal>
     ensures { refused result ≡ check_lent scan settings_ok moment ram.now icons.now }
 {
-    let memory = unless(memory_ok(ram, icons), Refusal::Memory);
-    let time = unless(moment.in_range(), Refusal::Time);
-    let settings = unless(settings_ok, Refusal::Settings);
-    in_order(
-        memory,
-        Check::Passed,
-        time,
-        settings,
-        check_of(scan.refusal()),
-    )
+    if memory_ok(ram, icons) {
+        check_moment(scan, settings_ok, moment)
+    } else {
+        Err(Refusal::Memory)
+    }
 }
 
 // The checks of a call that takes lent memory and an image of so many bytes.
-pub(crate) fn check_image(settings: Settings, ram: &[u8], icons: &[u8], bytes: usize) -> Check
+#[tactic(auto, unfolding(crate::specs::Check::check_image, crate::specs::Check::in_order))]
+pub(crate) fn check_image(
+    settings: Settings,
+    ram: &[u8],
+    icons: &[u8],
+    bytes: usize,
+) -> Result<(), Refusal>
     ensures { refused result ≡ check_image settings ram.now icons.now bytes }
 {
-    let memory = unless(memory_ok(ram, icons), Refusal::Memory);
-    let image = unless(image_ok(bytes), Refusal::Image);
-    let registers = unless(settings.valid(), Refusal::Settings);
-    in_order(memory, image, Check::Passed, registers, Check::Passed)
+    if !memory_ok(ram, icons) {
+        return Err(Refusal::Memory);
+    }
+    if !image_ok(bytes) {
+        return Err(Refusal::Image);
+    }
+    if !settings.valid() {
+        return Err(Refusal::Settings);
+    }
+    Ok(())
 }

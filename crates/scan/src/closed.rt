@@ -1,17 +1,10 @@
 // n quanta at once by division and remainder: within a row, past row ends, past frame ends.
-ghost use Rattle.std.specs.Prelude.{◌≡◌, ◌^◌, ◌<◌, ◌≤◌, false};
-ghost use Rattle.std.proofs.Math.Option.{none};
+ghost use Rattle.std.specs.Prelude.{◌≡◌, ◌^◌, ◌<◌, ◌≤◌, false, None};
 ghost use Rattle.scan.specs.Check.{check_scan};
 ghost use Rattle.scan.specs.Closed.{flipped, flips_in, count_in, count_taken, inversion_taken, in_row, rows_ended, frames_ended, closed};
 
 use crate::settings::{Settings, frame_of, pwm_of, rows_in};
 use crate::state::{Inversion, Scan};
-
-pub(crate) fn widened(x: u8) -> u64
-    ensures { result ≡ x }
-{
-    x as u64
-}
 
 // b after n flips.
 fn flip(b: bool, n: u64) -> bool
@@ -28,7 +21,7 @@ fn flips_in(lines: u8, count: u8, e: u64, f: u64) -> u64
     if lines == 0 {
         return f;
     }
-    (widened(count) + e) / widened(lines)
+    (u64::from(count) + e) / u64::from(lines)
 }
 
 // The count of rows after e ended rows.
@@ -39,7 +32,7 @@ fn count_in(lines: u8, count: u8, e: u64) -> u8
     if lines == 0 {
         return count;
     }
-    ((widened(count) + e) % widened(lines)) as u8
+    ((u64::from(count) + e) % u64::from(lines)) as u8
 }
 
 // The same where the last row's end takes the lines `taken`.
@@ -60,7 +53,7 @@ pub(crate) fn inversion_taken(inversion: Inversion, lines: u8, e: u64, f: u64) -
 {
     let flips = flips_in(inversion.lines, inversion.count, e, f);
     Inversion {
-        lines: lines,
+        lines,
         count: count_taken(inversion.lines, lines, inversion.count, e),
         inverted: flip(inversion.inverted, flips),
     }
@@ -81,13 +74,11 @@ fn rows_ended(scan: Scan, settings: Settings, step: u8, row: u8, e: u64, f: u64)
     requires { e < 2 ^ 51 }
     ensures { result ≡ rows_ended scan settings step row e f }
 {
-    let before = scan.inversion;
-    let inversion = inversion_taken(before, settings.inversion_lines, e, f);
     let mut next = scan;
     next.pwm = pwm_of(settings.gray_mode);
     next.row = row;
     next.step = step;
-    next.inversion = inversion;
+    next.inversion = inversion_taken(scan.inversion, settings.inversion_lines, e, f);
     next.latch.latched = false;
     next
 }
@@ -97,29 +88,27 @@ fn frames_ended(scan: Scan, settings: Settings, f: u64) -> Scan
     requires { f < 2 ^ 52 }
     ensures { result ≡ frames_ended scan settings f }
 {
-    let frame = frame_of(settings);
     let mut next = scan;
-    next.frame = frame;
-    next.frc = ((widened(scan.frc) + f) % widened(next.frame.frc_count)) as u8;
+    next.frame = frame_of(settings);
+    next.frc = ((u64::from(scan.frc) + f) % u64::from(next.frame.frc_count)) as u8;
     next
 }
 
 // The counters n quanta later; clock and rate stay.
 pub(crate) fn advanced(scan: Scan, settings: Settings, n: u64) -> Scan
-    requires scan_value { check_scan scan ≡ none }
+    requires scan_value { check_scan scan ≡ None }
     requires n_bound { n ≤ 2 ^ 50 }
     ensures { result ≡ closed scan settings scan.ticking false n }
 {
-    let total = widened(scan.step) + n;
-    let pwm = widened(scan.pwm);
+    let total = u64::from(scan.step) + n;
+    let pwm = u64::from(scan.pwm);
     let ended = total / pwm;
     let step = (total % pwm) as u8;
     if ended == 0 {
         return in_row(scan, step);
     }
-    let frame = scan.frame;
-    let rows = rows_in(frame) as u64;
-    let passed = widened(scan.row) + ended;
+    let rows = u64::from(rows_in(scan.frame));
+    let passed = u64::from(scan.row) + ended;
     let frames = passed / rows;
     let row = (passed % rows) as u8;
     let next = rows_ended(scan, settings, step, row, ended, frames);

@@ -1,23 +1,21 @@
 // Counting the scan to a moment. Document 01, 'Scan'. The piece rule and the clock stand in stretch.rt.
-ghost use Rattle.std.specs.Prelude.{◌≡◌, ◌+◌, ◌*◌, ◌^◌, ◌<◌, true, leb, if◌then◌else◌, nat_le};
-ghost use Rattle.std.proofs.Math.Option.{none};
+ghost use Rattle.std.specs.Prelude.{◌≡◌, ◌+◌, ◌*◌, ◌^◌, ◌<◌, true, leb, if◌then◌else◌, nat_le, None};
 ghost use Rattle.clock.specs.Time.{raw, in_range};
 ghost use Rattle.clock.specs.Rate.{is_lcd};
 ghost use Rattle.clock.specs.Edges.{moved_by};
 ghost use Rattle.clock.specs.Check.{valid_clock};
 ghost use Rattle.scan.specs.Check.{valid_settings, check_scan};
-ghost use Rattle.scan.specs.Count.{row_same, same_frame, frame_same, rate_same, due, count_to, answered_count, count_scan};
+ghost use Rattle.scan.specs.Count.{row_same, frame_same, rate_same, due, count_to, answered_count, count_scan};
 
-use crate::check::{Check, check_but_clock};
-use crate::settings::{Frame, Settings, frame_of, pwm_of, rate_of};
-use crate::state::{Scan, ScanClock};
+use crate::check::{Refusal, check_but_clock};
+use crate::settings::{Settings, frame_of, pwm_of, rate_of};
+use crate::state::Scan;
 use crate::stretch::in_pieces;
 use clock::{Clock, Rate, Time};
 
-// The scan counted to a moment, and how many pieces that took; or the refusal and the scan given.
-#[derive(Clone, Copy)]
+// The scan counted to a moment, and how many pieces that took.
+#[derive(Clone, Copy, Debug, PartialEq, Eq)]
 pub struct Counted {
-    pub check: Check,
     pub scan: Scan,
     pub pieces: u8,
 }
@@ -25,35 +23,19 @@ pub struct Counted {
 pub(crate) fn row_same(scan: Scan, settings: Settings) -> bool
     ensures { result ≡ row_same scan settings }
 {
-    let inversion = scan.inversion;
-    (pwm_of(settings.gray_mode) == scan.pwm) & (settings.inversion_lines == inversion.lines)
-}
-
-fn same_frame(a: Frame, b: Frame) -> bool
-    ensures { result ≡ same_frame a b }
-{
-    (a.duty == b.duty)
-        & (a.icon == b.icon)
-        & (a.initial_com == b.initial_com)
-        & (a.common_reverse == b.common_reverse)
-        & (a.start_line == b.start_line)
-        & (a.frc_count == b.frc_count)
+    (pwm_of(settings.gray_mode) == scan.pwm) & (settings.inversion_lines == scan.inversion.lines)
 }
 
 pub(crate) fn frame_same(scan: Scan, settings: Settings) -> bool
     ensures { result ≡ frame_same scan settings }
 {
-    let frame = scan.frame;
-    same_frame(frame_of(settings), frame)
+    frame_of(settings) == scan.frame
 }
 
 pub(crate) fn rate_same(scan: Scan, settings: Settings) -> bool
     ensures { result ≡ rate_same scan settings }
 {
-    let ticking = scan.ticking;
-    let rate = ticking.rate;
-    let frame = scan.frame;
-    rate.eq(rate_of(settings, frame))
+    scan.ticking.rate == rate_of(settings, scan.frame)
 }
 
 // Whole units up to the next edge: one more where the fractions come to a unit.
@@ -76,15 +58,9 @@ fn later(seconds: u64, fraction: u64, span: u64) -> Time
     requires { seconds < 2 ^ 32 }
     ensures { raw result ≡ seconds * 2 ^ 64 + fraction + span }
 {
-    let low = std::num::wrapping_add_u64(fraction, span);
-    if low < span {
-        return Time {
-            seconds: seconds + 1,
-            fraction: low,
-        };
-    }
+    let (low, over) = fraction.overflowing_add(span);
     Time {
-        seconds: seconds,
+        seconds: seconds + u64::from(over),
         fraction: low,
     }
 }
@@ -95,54 +71,45 @@ fn edge_due(clock: Clock, rate: Rate, now: Time) -> bool
     requires rate_value_2 { valid_clock clock rate ≡ true }
     ensures { result ≡ nat_le (raw (moved_by clock rate 1).at) (raw now) }
 {
-    let at = clock.at;
-    let whole = clock.whole;
-    let span = next_span(whole.low, clock.remainder, clock.fraction, rate.numerator);
-    let next = later(at.seconds, at.fraction, span);
-    next.le(now)
+    let span = next_span(
+        clock.whole.low,
+        clock.remainder,
+        clock.fraction,
+        rate.numerator,
+    );
+    later(clock.at.seconds, clock.at.fraction, span) <= now
 }
 
 fn is_due(scan: Scan, now: Time) -> bool
-    requires { check_scan scan ≡ none }
+    requires { check_scan scan ≡ None }
     ensures { result ≡ due scan now }
 {
-    let ticking = scan.ticking;
-    let clock = ticking.clock;
-    let ScanClock::Running(running) = clock else {
+    let Some(clock) = scan.ticking.clock else {
         return false;
     };
-    let rate = ticking.rate;
-    edge_due(running, rate, now)
+    edge_due(clock, scan.ticking.rate, now)
 }
 
 impl Scan {
     // The scan counted to now, and the pieces that took. The clock's check is the last in the table's
     // order, and the first question to it makes that.
-    pub fn count_to(self, settings: Settings, now: Time) -> Counted
-        ensures { answered_count result ≡ count_scan self settings now }
+    pub fn count_to(self, settings: Settings, now: Time) -> Result<Counted, Refusal>
+        ensures { answered_count self result ≡ count_scan self settings now }
     {
-        let check = check_but_clock(self, settings.valid(), now);
-        let Check::Passed = check else {
-            return Counted {
-                check: check,
-                scan: self,
-                pieces: 0,
-            };
-        };
+        check_but_clock(self, settings.valid(), now)?;
         in_pieces(self, settings, now)
     }
 }
 
-// The scan counted to now. Most drives find no edge due.
+// The scan counted to now, where every check has passed. Most drives find no edge due.
 pub(crate) fn latest(scan: Scan, settings: Settings, now: Time) -> Scan
     requires value { in_range now ≡ true }
     requires settings_value { valid_settings settings ≡ true }
-    requires scan_value { check_scan scan ≡ none }
+    requires scan_value { check_scan scan ≡ None }
     ensures { result ≡ count_to scan settings now }
 {
     if !is_due(scan, now) {
         return scan;
     }
-    let counted = scan.count_to(settings, now);
-    counted.scan
+    scan.count_to(settings, now).unwrap().scan
 }

@@ -1,62 +1,44 @@
 // The drive: the levels that the electrodes of the glass get at a moment, and the voltage of each
 // electrode. Document 01, 'Drive, electrodes, image'.
-ghost use Rattle.std.specs.Prelude.{◌≡◌, ◌<◌, true, length, if◌then◌else◌};
-ghost use Rattle.std.proofs.Math.Option.{none};
+ghost use Rattle.std.specs.Prelude.{◌≡◌, ◌<◌, true, length, None};
 ghost use Rattle.clock.specs.Time.{in_range};
 ghost use Rattle.voltage.specs.Check as analogs;
 ghost use Rattle.voltage.specs.Voltage.{voltages};
 ghost use Rattle.scan.specs.Check.{valid_settings, check_scan};
-ghost use Rattle.scan.specs.Drive.{runs as runs_by, driven as driven_by, grounded as grounded_by, common_of, undriven as undriven_of, drive_of, drive_at, quanta_of, frame_at, off, answered_drive, drive_scan, microvolts, level_microvolts, common_level, segment_level, active_in, common_microvolts, segment_microvolts};
+ghost use Rattle.scan.specs.Drive.{runs as runs_by, driven as driven_by, grounded as grounded_by, common_of, undriven as undriven_of, drive_of, drive_at, quanta_of, frame_at, answered_drive, drive_scan, common_level, segment_level, active_in, common_microvolts, segment_microvolts};
 
-use crate::check::{Check, check_lent};
+use crate::check::{Refusal, check_lent};
 use crate::count::latest;
 use crate::latch::shown;
 use crate::settings::Settings;
 use crate::state::Scan;
 use clock::Time;
-use voltage::{Answer, LcdVoltages, Level, Supply};
+use voltage::{LcdVoltages, Supply};
 
 // The conditions, besides the settings, that decide whether the glass is driven.
-#[derive(Clone, Copy)]
+#[derive(Clone, Copy, Debug, PartialEq, Eq)]
 pub struct Conditions {
     pub display_on: bool,
     pub oscillator_enabled: bool,
     pub supply: Supply,
 }
 
-// The common that is selected. Common 128 is that of the icons.
-#[derive(Clone, Copy)]
-pub enum Common {
-    Selected(u8),
-    None,
-}
-
-// Bit n % 64 of word n / 64 is segment n, active relative to the selected common. With `grounded`
+// `common` is the common that is selected, 128 that of the icons. Bit n % 64 of word n / 64 is segment n, active relative to the selected common. With `grounded`
 // every electrode is at 0.
-#[derive(Clone, Copy)]
+#[derive(Clone, Copy, Debug, PartialEq, Eq)]
 pub struct LcdDrive {
     pub voltages: LcdVoltages,
-    pub common: Common,
+    pub common: Option<u8>,
     pub inverted: bool,
     pub grounded: bool,
     pub segments: [u64; 2],
 }
 
-// The drive and the frame of the scan shown, in quanta (duty x PWM, 0 where undriven); or the refusal
-// and the undriven drive.
-#[derive(Clone, Copy)]
+// The drive and the frame of the scan shown, in quanta: duty x PWM, 0 where undriven.
+#[derive(Clone, Copy, Debug, PartialEq, Eq)]
 pub struct Driven {
-    pub check: Check,
     pub drive: LcdDrive,
     pub frame: u16,
-}
-
-// The voltage of an electrode in microvolts; none where it has no level or there is no such
-// electrode.
-#[derive(Clone, Copy)]
-pub enum Electrode {
-    Microvolts(u32),
-    None,
 }
 
 impl Conditions {
@@ -64,18 +46,16 @@ impl Conditions {
     pub fn runs(self) -> bool
         ensures { result ≡ runs_by self }
     {
-        let supply = self.supply;
-        self.oscillator_enabled & !supply.power_save
+        self.oscillator_enabled & !self.supply.power_save
     }
 
     pub fn driven(self) -> bool
         ensures { result ≡ driven_by self }
     {
-        let supply = self.supply;
-        (2400 <= supply.supply_millivolts)
-            & !supply.waiting
+        (2400 <= self.supply.supply_millivolts)
+            & !self.supply.waiting
             & self.display_on
-            & !supply.power_save
+            & !self.supply.power_save
             & self.oscillator_enabled
     }
 
@@ -83,20 +63,18 @@ impl Conditions {
     fn grounded(self) -> bool
         ensures { result ≡ grounded_by self }
     {
-        let supply = self.supply;
-        supply.power_save & (1650 <= supply.supply_millivolts) & !supply.waiting
+        self.supply.power_save & (1650 <= self.supply.supply_millivolts) & !self.supply.waiting
     }
 }
 
 fn common_of(scan: Scan) -> u8
     ensures { result ≡ common_of scan }
 {
-    let frame = scan.frame;
-    if scan.row == frame.duty {
+    if scan.row == scan.frame.duty {
         return 128;
     }
-    let common = (frame.initial_com % 128 + scan.row % 128) % 128;
-    if frame.common_reverse {
+    let common = (scan.frame.initial_com % 128 + scan.row % 128) % 128;
+    if scan.frame.common_reverse {
         return 127 - common;
     }
     common
@@ -105,10 +83,11 @@ fn common_of(scan: Scan) -> u8
 fn undriven(conditions: Conditions, voltages: LcdVoltages) -> LcdDrive
     ensures { result ≡ undriven_of conditions voltages }
 {
-    let mut drive = LcdDrive::OFF;
-    drive.voltages = voltages;
-    drive.grounded = conditions.grounded();
-    drive
+    LcdDrive {
+        voltages,
+        grounded: conditions.grounded(),
+        ..LcdDrive::OFF
+    }
 }
 
 // The drive of a scan that is counted to the moment.
@@ -119,18 +98,16 @@ fn drive_of(
     ram: &[u8],
     icons: &[u8],
 ) -> LcdDrive
-    requires scan_value { check_scan scan ≡ none }
+    requires scan_value { check_scan scan ≡ None }
     requires ram_len { length ram.now ≡ 4096 }
     requires icons_len { length icons.now ≡ 256 }
     ensures { result ≡ drive_of scan settings voltages ram.now icons.now }
 {
-    let words = shown(scan, settings, ram, icons);
-    let inversion = scan.inversion;
     LcdDrive {
-        common: Common::Selected(common_of(scan)),
-        segments: words,
-        inverted: inversion.inverted,
-        voltages: voltages,
+        common: Some(common_of(scan)),
+        segments: shown(scan, settings, ram, icons),
+        inverted: scan.inversion.inverted,
+        voltages,
         grounded: false,
     }
 }
@@ -139,19 +116,7 @@ fn drive_of(
 fn quanta_of(scan: Scan) -> u16
     ensures { result ≡ quanta_of scan }
 {
-    let frame = scan.frame;
-    (frame.duty as u16) * (scan.pwm as u16)
-}
-
-// A refused drive is the undriven one.
-fn turned_down(check: Check) -> Driven
-    ensures { result ≡ record { check = check; drive = off; frame = 0 } }
-{
-    Driven {
-        check: check,
-        drive: LcdDrive::OFF,
-        frame: 0,
-    }
+    u16::from(scan.frame.duty) * u16::from(scan.pwm)
 }
 
 fn driven_at(
@@ -165,21 +130,19 @@ fn driven_at(
 ) -> Driven
     requires moment_value { in_range moment ≡ true }
     requires settings_value { valid_settings settings ≡ true }
-    requires scan_value { check_scan scan ≡ none }
+    requires scan_value { check_scan scan ≡ None }
     requires ram_len { length ram.now ≡ 4096 }
     requires icons_len { length icons.now ≡ 256 }
-    ensures { result ≡ record { check = Check.Passed; drive = drive_at scan settings voltages conditions moment ram.now icons.now; frame = frame_at scan settings conditions moment } }
+    ensures { result ≡ record { drive = drive_at scan settings voltages conditions moment ram.now icons.now; frame = frame_at scan settings conditions moment } }
 {
     if !conditions.driven() {
         return Driven {
-            check: Check::Passed,
             drive: undriven(conditions, voltages),
             frame: 0,
         };
     }
     let latest = latest(scan, settings, moment);
     Driven {
-        check: Check::Passed,
         drive: drive_of(latest, settings, voltages, ram, icons),
         frame: quanta_of(latest),
     }
@@ -190,14 +153,11 @@ fn levels_of(analog: voltage::Settings, supply: Supply) -> LcdVoltages
     requires { analogs.valid_settings analog ≡ true }
     ensures { result ≡ voltages analog supply }
 {
-    let answer = voltage::voltages(analog, supply);
-    let Answer::Voltages(levels) = answer else {
-        return LcdVoltages::OFF;
-    };
-    levels
+    voltage::voltages(analog, supply).unwrap()
 }
 
 // The drive at a moment. The scan itself is left where it was.
+#[tactic(auto, using(crate::proofs::Checks::lent_facts))]
 pub fn drive(
     scan: Scan,
     settings: Settings,
@@ -206,58 +166,37 @@ pub fn drive(
     moment: Time,
     ram: &[u8],
     icons: &[u8],
-) -> Driven
+) -> Result<Driven, Refusal>
     ensures { answered_drive result ≡ drive_scan scan settings analog conditions moment ram.now icons.now }
 {
     let settings_ok = settings.valid() & analog.valid();
-    let check = check_lent(scan, settings_ok, moment, ram, icons);
-    let Check::Passed = check else {
-        return turned_down(check);
-    };
-    let supply = conditions.supply;
-    let levels = levels_of(analog, supply);
-    driven_at(scan, settings, levels, conditions, moment, ram, icons)
+    check_lent(scan, settings_ok, moment, ram, icons)?;
+    let levels = levels_of(analog, conditions.supply);
+    Ok(driven_at(scan, settings, levels, conditions, moment, ram, icons))
 }
 
-fn electrode_at(level: Level) -> Electrode
-    ensures { microvolts result ≡ level_microvolts level }
+// The level of a common in microvolts; None where it has none.
+fn common_level(voltages: LcdVoltages, selected: bool, inverted: bool) -> Option<u32>
+    ensures { result ≡ common_level voltages selected inverted }
 {
-    let Level::Microvolts(value) = level else {
-        return Electrode::None;
-    };
-    Electrode::Microvolts(value)
-}
-
-// One of two levels.
-fn one_of(first: bool, a: Level, b: Level) -> Level
-    ensures { level_microvolts result ≡ (if first then level_microvolts a else level_microvolts b) }
-{
-    if first {
-        return a;
+    match (selected, inverted) {
+        (true, true) => Some(0),
+        (true, false) => voltages.v0,
+        (false, true) => voltages.v1,
+        (false, false) => voltages.v4,
     }
-    b
 }
 
-fn common_level(voltages: LcdVoltages, selected: bool, inverted: bool) -> Electrode
-    ensures { microvolts result ≡ common_level voltages selected inverted }
+// The same of a segment.
+fn segment_level(voltages: LcdVoltages, active: bool, inverted: bool) -> Option<u32>
+    ensures { result ≡ segment_level voltages active inverted }
 {
-    let v0 = voltages.v0;
-    let v1 = voltages.v1;
-    let v4 = voltages.v4;
-    let on = one_of(inverted, Level::Microvolts(0), v0);
-    let off = one_of(inverted, v1, v4);
-    electrode_at(one_of(selected, on, off))
-}
-
-fn segment_level(voltages: LcdVoltages, active: bool, inverted: bool) -> Electrode
-    ensures { microvolts result ≡ segment_level voltages active inverted }
-{
-    let v0 = voltages.v0;
-    let v2 = voltages.v2;
-    let v3 = voltages.v3;
-    let on = one_of(inverted, v0, Level::Microvolts(0));
-    let off = one_of(inverted, v2, v3);
-    electrode_at(one_of(active, on, off))
+    match (active, inverted) {
+        (true, true) => voltages.v0,
+        (true, false) => Some(0),
+        (false, true) => voltages.v2,
+        (false, false) => voltages.v3,
+    }
 }
 
 // Whether a segment is active in the two words of a latch.
@@ -265,53 +204,48 @@ fn active_in(words: [u64; 2], segment: u8) -> bool
     requires { segment < 128 }
     ensures { result ≡ active_in words segment }
 {
-    let at = (segment / 64) as usize;
-    let word = words[at];
-    (word >> (segment % 64)) % 2 == 1
+    (words[usize::from(segment / 64)] >> (segment % 64)) % 2 == 1
 }
 
 impl LcdDrive {
     // Nothing is driven.
     pub const OFF: LcdDrive = LcdDrive {
-        common: Common::None,
+        common: None,
         segments: [0; 2],
         inverted: false,
         voltages: LcdVoltages::OFF,
         grounded: false,
     };
 
-    pub fn common_microvolts(self, common: u8) -> Electrode
-        ensures { microvolts result ≡ common_microvolts self common }
+    // The voltage of a common in microvolts; None where it has no level or there is no such common.
+    pub fn common_microvolts(self, common: u8) -> Option<u32>
+        ensures { result ≡ common_microvolts self common }
     {
         if common > 128 {
-            return Electrode::None;
+            return None;
         }
         if self.grounded {
-            return Electrode::Microvolts(0);
+            return Some(0);
         }
-        let selected = self.common;
-        let Common::Selected(number) = selected else {
-            return Electrode::None;
-        };
-        let voltages = self.voltages;
-        common_level(voltages, number == common, self.inverted)
+        let selected = self.common?;
+        common_level(self.voltages, selected == common, self.inverted)
     }
 
-    pub fn segment_microvolts(self, segment: u8) -> Electrode
-        ensures { microvolts result ≡ segment_microvolts self segment }
+    // The same of a segment.
+    pub fn segment_microvolts(self, segment: u8) -> Option<u32>
+        ensures { result ≡ segment_microvolts self segment }
     {
         if segment > 127 {
-            return Electrode::None;
+            return None;
         }
         if self.grounded {
-            return Electrode::Microvolts(0);
+            return Some(0);
         }
-        let selected = self.common;
-        let Common::Selected(_) = selected else {
-            return Electrode::None;
-        };
-        let words = self.segments;
-        let voltages = self.voltages;
-        segment_level(voltages, active_in(words, segment), self.inverted)
+        self.common?;
+        segment_level(
+            self.voltages,
+            active_in(self.segments, segment),
+            self.inverted,
+        )
     }
 }

@@ -1,47 +1,20 @@
 // The fast path of a byte: its checks pass, the scan goes on as it did, and every setting that the ends of
 // rows and frames take is in force already. Then only clock, counters and latch move, and one check of
 // the clock does for the count too. Any other byte goes by byte.rt.
-ghost use Rattle.std.specs.Prelude.{◌≡◌, ◌+◌, ◌%◌, ◌^◌, ◌<◌, ◌≤◌, true};
-ghost use Rattle.std.proofs.Math.Option.{none};
+ghost use Rattle.std.specs.Prelude.{◌≡◌, ◌+◌, ◌%◌, ◌^◌, ◌<◌, ◌≤◌, true, None};
 ghost use Rattle.clock.specs.Time.{in_range};
 ghost use Rattle.scan.specs.Check.{valid_settings, valid_scan, check_scan};
-ghost use Rattle.scan.specs.Byte.{stays_shown};
-ghost use Rattle.scan.specs.Fast.{by_fast, not_fast, checks_pass, counted_fast, fast_byte, in_force, inversion_on, with_counters, rows_on, moved_on};
+ghost use Rattle.scan.specs.Fast.{checks_pass, counted_fast, fast_byte, in_force, inversion_on, with_counters, rows_on, moved_on};
 
-use crate::byte::settled;
+use crate::byte::{settled, stays_shown};
 use crate::check::memory_ok;
-use crate::closed::{inversion_taken, widened};
+use crate::closed::inversion_taken;
 use crate::count::{frame_same, rate_same, row_same};
-use crate::latch::{DataPage, affected, latched_row, retained};
+use crate::latch::retained;
 use crate::run::Running;
 use crate::settings::{Settings, rows_in};
-use crate::state::{Inversion, Scan, ScanClock, with_ticking};
-use clock::{Clock, Passed, Time};
-
-// Whether a byte takes the fast path, and the scan after it; the scan given, where it does not.
-#[derive(Clone, Copy)]
-pub struct FastScan {
-    pub fast: bool,
-    pub scan: Scan,
-}
-
-fn not_fast(scan: Scan) -> FastScan
-    ensures { result ≡ not_fast scan }
-{
-    FastScan {
-        fast: false,
-        scan: scan,
-    }
-}
-
-fn by_fast(scan: Scan) -> FastScan
-    ensures { result ≡ by_fast scan }
-{
-    FastScan {
-        fast: true,
-        scan: scan,
-    }
-}
+use crate::state::{Inversion, Scan, with_ticking};
+use clock::{Clock, Time};
 
 // No end of a row or frame takes another setting, and the rate is that of the settings.
 fn in_force(scan: Scan, settings: Settings) -> bool
@@ -62,9 +35,7 @@ fn inversion_on(inversion: Inversion, e: u64, f: u64) -> Inversion
 fn with_counters(scan: Scan, clock: Clock, step: u8, row: u8, frc: u8, inversion: Inversion) -> Scan
     ensures { result ≡ with_counters scan clock step row frc inversion }
 {
-    let ticking = scan.ticking;
-    let rate = ticking.rate;
-    let mut next = with_ticking(scan, ScanClock::Running(clock), rate);
+    let mut next = with_ticking(scan, Some(clock), scan.ticking.rate);
     next.latch.latched = false;
     next.row = row;
     next.step = step;
@@ -79,81 +50,63 @@ fn phase_on(frc: u8, f: u64, phases: u8) -> u8
     requires phases_nonzero { 0 < phases }
     ensures { result ≡ (frc + f) % phases }
 {
-    ((widened(frc) + f) % widened(phases)) as u8
+    ((u64::from(frc) + f) % u64::from(phases)) as u8
 }
 
 // Past e row ends, with every setting in force.
 fn rows_on(scan: Scan, clock: Clock, step: u8, e: u64) -> Scan
-    requires scan_value { check_scan scan ≡ none }
+    requires scan_value { check_scan scan ≡ None }
     requires e_bound { e < 2 ^ 51 }
     ensures { result ≡ rows_on scan clock step e }
 {
-    let frame = scan.frame;
-    let inversion = scan.inversion;
-    let rows = rows_in(frame) as u64;
-    let passed = widened(scan.row) + e;
+    let rows = u64::from(rows_in(scan.frame));
+    let passed = u64::from(scan.row) + e;
     if passed < rows {
-        let next = inversion_on(inversion, e, 0);
+        let next = inversion_on(scan.inversion, e, 0);
         return with_counters(scan, clock, step, passed as u8, scan.frc, next);
     }
     let frames = passed / rows;
     let row = (passed % rows) as u8;
-    let next = inversion_on(inversion, e, frames);
-    let frc = phase_on(scan.frc, frames, frame.frc_count);
+    let next = inversion_on(scan.inversion, e, frames);
+    let frc = phase_on(scan.frc, frames, scan.frame.frc_count);
     with_counters(scan, clock, step, row, frc, next)
 }
 
 // n quanta later, with every setting in force.
 fn moved_on(scan: Scan, clock: Clock, n: u64) -> Scan
-    requires scan_value { check_scan scan ≡ none }
+    requires scan_value { check_scan scan ≡ None }
     requires n_bound { n ≤ 2 ^ 50 }
     ensures { result ≡ moved_on scan clock n }
 {
-    let total = widened(scan.step) + n;
-    let pwm = widened(scan.pwm);
+    let total = u64::from(scan.step) + n;
+    let pwm = u64::from(scan.pwm);
     if total < pwm {
-        let inversion = scan.inversion;
-        return with_counters(scan, clock, total as u8, scan.row, scan.frc, inversion);
+        return with_counters(scan, clock, total as u8, scan.row, scan.frc, scan.inversion);
     }
     rows_on(scan, clock, (total % pwm) as u8, total / pwm)
 }
 
 // The scan counted to now, where its clock passes and an edge that is due finds every setting in force.
-fn counted_fast(scan: Scan, settings: Settings, now: Time) -> FastScan
+// None elsewhere.
+fn counted_fast(scan: Scan, settings: Settings, now: Time) -> Option<Scan>
     requires value { in_range now ≡ true }
     requires settings_value { valid_settings settings ≡ true }
     requires scan_value { valid_scan scan ≡ true }
     ensures { result ≡ counted_fast scan settings now }
 {
-    let ticking = scan.ticking;
-    let clock = ticking.clock;
-    let ScanClock::Running(running) = clock else {
-        return by_fast(scan);
+    let Some(clock) = scan.ticking.clock else {
+        return Some(scan);
     };
-    let rate = ticking.rate;
-    let passed = running.passed_to(rate, now, u64::MAX);
-    let Passed::Edges {
-        count,
-        clock: moved,
-    } = passed
-    else {
-        return not_fast(scan);
+    let Ok(passed) = clock.passed_to(scan.ticking.rate, now, u64::MAX) else {
+        return None;
     };
-    if count == 0 {
-        return by_fast(scan);
+    if passed.count == 0 {
+        return Some(scan);
     }
     if !in_force(scan, settings) {
-        return not_fast(scan);
+        return None;
     }
-    by_fast(moved_on(scan, moved, count))
-}
-
-// The latch need not be retained before a byte.
-fn stays_shown(scan: Scan, page: DataPage) -> bool
-    ensures { result ≡ stays_shown scan page }
-{
-    let latch = scan.latch;
-    latch.latched | !affected(page, latched_row(scan))
+    Some(moved_on(scan, passed.clock, passed.count))
 }
 
 // The same settings, field by field: what a call takes stands in memory, and where few bytes come to the
@@ -173,7 +126,7 @@ fn copied(settings: Settings) -> Settings
         duty: settings.duty,
         inversion_lines: settings.inversion_lines,
         gray_mode: settings.gray_mode,
-        palette: palette,
+        palette,
         oscillator_control: settings.oscillator_control,
         oscillator_frequency: settings.oscillator_frequency,
     }
@@ -187,29 +140,32 @@ fn checks_pass(scan: Scan, settings: Settings, moment: Time, ram: &[u8], icons: 
 }
 
 impl Scan {
-    // The scan after a byte that takes the fast path, which leaves the settings as they are.
+    // The scan after a byte that takes the fast path, which leaves the settings as they are; None of
+    // another byte.
     pub fn fast_byte(
         self,
         settings: Settings,
         moment: Time,
-        page: DataPage,
+        page: Option<u8>,
         running: Running,
         ram: &[u8],
         icons: &[u8],
-    ) -> FastScan
+    ) -> Option<Scan>
         ensures { result ≡ fast_byte self settings moment page running ram.now icons.now }
     {
         if !checks_pass(self, settings, moment, ram, icons) {
-            return not_fast(self);
+            return None;
         }
-        let answer = counted_fast(self, settings, moment);
-        let counted = answer.scan;
-        if !(answer.fast & settled(counted, settings, running)) {
-            return not_fast(self);
+        // Not `?`: that copies the scan once more, and a byte takes 4 ns more.
+        let Some(counted) = counted_fast(self, settings, moment) else {
+            return None;
+        };
+        if !settled(counted, settings, running) {
+            return None;
         }
         if stays_shown(counted, page) {
-            return by_fast(counted);
+            return Some(counted);
         }
-        by_fast(retained(counted, copied(settings), page, ram, icons))
+        Some(retained(counted, copied(settings), page, ram, icons))
     }
 }

@@ -5,7 +5,7 @@ ghost use Rattle.scan.specs.Settings.{frc_count_of};
 ghost use Rattle.scan.specs.Check.{refused, check_image};
 ghost use Rattle.scan.specs.Image.{lit_by, cycle_of, widths, level_of, glass_common, line_of, ram_row_of, rendered};
 
-use crate::check::{Check, check_image};
+use crate::check::{Refusal, check_image};
 use crate::paint::paint;
 use crate::settings::{Settings, frc_count_of, pwm_of};
 use crate::shade::pulse_width;
@@ -27,12 +27,9 @@ fn width_sum(settings: Settings, shade: u8) -> u16
     ensures { result ≡ widths settings shade (frc_count_of settings.gray_mode) }
 {
     let pwm = pwm_of(settings.gray_mode);
-    let phases = frc_count_of(settings.gray_mode);
-    let mut sum: u16 = 0;
-    let mut phase: u8 = 0;
-    while phase < phases {
-        sum += pulse_width(settings, shade, phase, pwm) as u16;
-        phase += 1;
+    let mut sum = 0;
+    for phase in 0..frc_count_of(settings.gray_mode) {
+        sum += u16::from(pulse_width(settings, shade, phase, pwm));
     }
     sum
 }
@@ -41,9 +38,7 @@ fn width_sum(settings: Settings, shade: u8) -> u16
 fn cycle_of(settings: Settings) -> u16
     ensures { result ≡ cycle_of settings }
 {
-    let pwm = pwm_of(settings.gray_mode) as u16;
-    let phases = frc_count_of(settings.gray_mode) as u16;
-    pwm * phases
+    u16::from(pwm_of(settings.gray_mode)) * u16::from(frc_count_of(settings.gray_mode))
 }
 
 // The mean drive of a shade, rounded to the nearest.
@@ -61,10 +56,7 @@ fn glass_common(reversed: bool, y: u8) -> u8
     requires { y < 64 }
     ensures { result ≡ glass_common reversed y }
 {
-    if reversed {
-        return 95 - y;
-    }
-    32 + y
+    if reversed { 95 - y } else { 32 + y }
 }
 
 // The line of the scan that drives a glass row.
@@ -89,15 +81,17 @@ pub(crate) fn ram_row_of(settings: Settings, line: u8) -> u8
 }
 
 // The whole image into 6,144 lent bytes.
-pub fn render(settings: Settings, driven: bool, ram: &[u8], icons: &[u8], image: &mut [u8]) -> Check
+pub fn render(
+    settings: Settings,
+    driven: bool,
+    ram: &[u8],
+    icons: &[u8],
+    image: &mut [u8],
+) -> Result<(), Refusal>
     ensures result_value { refused result ≡ check_image settings ram.now icons.now (length image.old) }
     ensures image_after { image.new ≡ rendered settings driven ram.now icons.now image.old }
 {
-    let check = check_image(settings, ram, icons, image.len());
-    let Check::Passed = check else {
-        return check;
-    };
-    let lit = lit_by(settings, driven);
-    paint(settings, lit, ram, image);
-    Check::Passed
+    check_image(settings, ram, icons, image.len())?;
+    paint(settings, lit_by(settings, driven), ram, image);
+    Ok(())
 }

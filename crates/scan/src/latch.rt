@@ -7,24 +7,16 @@ use crate::segments::{active_shades, row_words};
 use crate::settings::Settings;
 use crate::state::{Latch, Scan};
 
-// The page that a data byte goes to, or none for a command.
-#[derive(Clone, Copy)]
-pub enum DataPage {
-    None,
-    Page(u8),
-}
-
 // The row of the icons.
 pub(crate) const ICON_ROW: u8 = 128;
 
 pub(crate) fn latched_row(scan: Scan) -> u8
     ensures { result ≡ latched_row scan }
 {
-    let frame = scan.frame;
-    if scan.row == frame.duty {
+    if scan.row == scan.frame.duty {
         return ICON_ROW;
     }
-    (frame.start_line % 128 + scan.row % 128) % 128
+    (scan.frame.start_line % 128 + scan.row % 128) % 128
 }
 
 // The latch of present memory and settings.
@@ -51,31 +43,28 @@ pub(crate) fn shown(scan: Scan, settings: Settings, ram: &[u8], icons: &[u8]) ->
     requires icons_len { length icons.now ≡ 256 }
     ensures { result ≡ shown_of scan settings ram.now icons.now }
 {
-    let latch = scan.latch;
-    if latch.latched {
-        return latch.segments;
+    if scan.latch.latched {
+        return scan.latch.segments;
     }
     present_latch(scan, settings, ram, icons)
 }
 
-// Whether a byte could alter what a row shows.
-pub(crate) fn affected(page: DataPage, row: u8) -> bool
+// Whether a byte could alter what a row shows: `page` is where a data byte goes, none for a command.
+pub(crate) fn affected(page: Option<u8>, row: u8) -> bool
     ensures { result ≡ affects page row }
 {
-    let DataPage::Page(number) = page else {
-        return true;
-    };
-    if number == 16 {
-        return row == ICON_ROW;
+    match page {
+        None => true,
+        Some(16) => row == ICON_ROW,
+        Some(number) => (row != ICON_ROW) & (row / 8 == number % 16),
     }
-    (row != ICON_ROW) & (row / 8 == number % 16)
 }
 
 // The scan with its latch retained, where a byte could alter the row being shown.
 pub(crate) fn retained(
     scan: Scan,
     settings: Settings,
-    page: DataPage,
+    page: Option<u8>,
     ram: &[u8],
     icons: &[u8],
 ) -> Scan
@@ -84,16 +73,15 @@ pub(crate) fn retained(
     requires icons_len { length icons.now ≡ 256 }
     ensures { result ≡ retained_of scan settings page ram.now icons.now }
 {
-    let latch = scan.latch;
-    if latch.latched | !affected(page, latched_row(scan)) {
+    if scan.latch.latched | !affected(page, latched_row(scan)) {
         return scan;
     }
     let segments = present_latch(scan, settings, ram, icons);
-    let stored = Latch {
-        segments: segments,
+    // Not `Scan { latch, ..scan }`: that copies field by field, and a byte takes some 20 ns more.
+    let mut next = scan;
+    next.latch = Latch {
+        segments,
         latched: true,
     };
-    let mut next = scan;
-    next.latch = stored;
     next
 }

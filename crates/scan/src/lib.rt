@@ -19,12 +19,10 @@ mod shade;
 mod state;
 mod stretch;
 
-pub use check::{Changed, Check, Refusal};
+pub use check::Refusal;
 pub use count::Counted;
-pub use drive::{Common, Conditions, Driven, Electrode, LcdDrive};
-pub use fast::FastScan;
+pub use drive::{Conditions, Driven, LcdDrive};
 pub use image::{LCD_HEIGHT, LCD_WIDTH, render};
-pub use latch::DataPage;
 pub use run::Running;
 pub use settings::{Frame, Settings};
-pub use state::{Inversion, Latch, Scan, ScanClock, Ticking};
+pub use state::{Inversion, Latch, Scan, Ticking};

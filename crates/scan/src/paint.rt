@@ -2,12 +2,11 @@
 // them show, and the image row after row.
 ghost use Rattle.std.specs.Prelude.{◌≡◌, ◌<◌, true, length};
 ghost use Rattle.scan.specs.Check.{valid_settings};
-ghost use Rattle.scan.specs.Image.{page_level, up_to, image_row, rows_up_to};
-ghost use Rattle.scan.specs.Planes.{AreBits};
-ghost use Rattle.scan.specs.Paint.{levels_of, row_level, dark};
+ghost use Rattle.scan.specs.Image.{up_to, image_row, rows_up_to};
+ghost use Rattle.scan.specs.Paint.{levels_of, row_level};
 
 use crate::image::{LCD_HEIGHT, LCD_WIDTH, level_of, line_of, ram_row_of};
-use crate::planes::{bits_of, planes, shown_shade};
+use crate::planes::{RowBits, shown_shade};
 use crate::settings::Settings;
 
 // The levels of what the two bits of a segment show, by their number: worked out once for all pixels.
@@ -22,43 +21,14 @@ fn levels_of(settings: Settings) -> [u8; 4]
     ]
 }
 
-// A row that shows nothing.
-fn clear_row(row: &mut [u8])
-    requires { length row.old ≡ 96 }
-    ensures { row.new ≡ up_to dark 96 }
-{
-    let mut x = 0;
-    while x < LCD_WIDTH {
-        row[x] = 0;
-        x += 1;
-    }
-}
-
 // A row from its bits.
-fn paint_bits(bits: &[u8; 256], reversed: bool, levels: [u8; 4], row: &mut [u8])
-    requires are_bits { AreBits bits.now }
-    requires row_len { length row.old ≡ 96 }
-    ensures { row.new ≡ up_to (row_level levels bits.now reversed) 96 }
+fn paint_bits(bits: &RowBits, reversed: bool, levels: [u8; 4], row: &mut [u8])
+    requires { length row.old ≡ 96 }
+    ensures { row.new ≡ up_to (row_level levels bits.now.bits reversed) 96 }
 {
-    let mut x = 0;
-    while x < LCD_WIDTH {
-        let at = planes(bits, reversed, x);
-        row[x] = levels[at];
-        x += 1;
+    for (x, pixel) in row.iter_mut().enumerate() {
+        *pixel = levels[bits.planes(reversed, x)];
     }
-}
-
-// The row that stands at `bit` of the 256 bytes of its page.
-fn paint_page(settings: Settings, levels: [u8; 4], page: &[u8], bit: u8, row: &mut [u8])
-    requires levels_value { levels ≡ levels_of settings }
-    requires page_len { length page.now ≡ 256 }
-    requires bit_bound { bit < 8 }
-    requires row_len { length row.old ≡ 96 }
-    ensures { row.new ≡ up_to (page_level settings page.now bit) 96 }
-{
-    let mut bits = [0; 256];
-    bits_of(page, bit, &mut bits);
-    paint_bits(&bits, settings.segment_reverse, levels, row);
 }
 
 // One glass row.
@@ -80,17 +50,12 @@ pub(crate) fn paint_row(
     let line = line_of(settings, y);
     if lit & (line < settings.duty) {
         let shown = ram_row_of(settings, line);
-        let page = (shown / 8) as usize;
-        paint_page(
-            settings,
-            levels,
-            &ram[page * 256..page * 256 + 256],
-            shown % 8,
-            row,
-        );
-        return;
+        let page = usize::from(shown / 8) * 256;
+        let bits = RowBits::new(&ram[page..page + 256], shown % 8);
+        paint_bits(&bits, settings.segment_reverse, levels, row);
+    } else {
+        row.fill(0);
     }
-    clear_row(row);
 }
 
 // All glass rows.
@@ -101,8 +66,8 @@ pub(crate) fn paint(settings: Settings, lit: bool, ram: &[u8], image: &mut [u8])
     ensures { image.new ≡ rows_up_to (image_row settings lit ram.now) 64 }
 {
     let levels = levels_of(settings);
-    let mut y = 0;
-    while y < LCD_HEIGHT {
+    // By index: of what is written through `chunks_exact_mut` a proof knows only the length.
+    for y in 0..LCD_HEIGHT {
         let at = y * LCD_WIDTH;
         paint_row(
             settings,
@@ -112,6 +77,5 @@ pub(crate) fn paint(settings: Settings, lit: bool, ram: &[u8], image: &mut [u8])
             y as u8,
             &mut image[at..at + LCD_WIDTH],
         );
-        y += 1;
     }
 }

@@ -1,20 +1,19 @@
 // The effect of a byte, a warm rise or a fall on the scan. Document 01, 'Scan'. The moment of a call is
 // `moment` where memory is lent, since a clause reads lent memory by `now`.
-ghost use Rattle.std.specs.Prelude.{◌≡◌, true, length};
-ghost use Rattle.std.proofs.Math.Option.{none};
+ghost use Rattle.std.specs.Prelude.{◌≡◌, true, length, None};
 ghost use Rattle.clock.specs.Time.{in_range};
 ghost use Rattle.scan.specs.Check.{answered, valid_settings, check_scan};
 ghost use Rattle.scan.specs.Run.{running_after, cleared as cleared_of, taken as taken_of, begun as begun_of, stopped as stopped_of, clocked as clocked_of, resumed as resumed_of, updated as updated_of, before_byte, after_byte, fall_scan, rise_scan};
 
-use crate::check::{Changed, Check, check_lent, check_moment};
+use crate::check::{Refusal, check_lent, check_moment};
 use crate::count::latest;
-use crate::latch::{DataPage, present_latch, retained};
+use crate::latch::{present_latch, retained};
 use crate::settings::{Settings, frame_of, pwm_of, rate_of};
-use crate::state::{Inversion, Latch, Scan, ScanClock, Ticking, start_clock, with_ticking};
+use crate::state::{Inversion, Latch, Scan, Ticking, start_clock, with_ticking};
 use clock::Time;
 
 // The effect of a byte on the scan: it makes it run, leaves it running, or the scan does not run.
-#[derive(Clone, Copy)]
+#[derive(Clone, Copy, Debug, PartialEq, Eq)]
 pub enum Running {
     Begins,
     Continues,
@@ -55,17 +54,16 @@ fn taken(settings: Settings) -> Scan
     ensures { result ≡ taken_of settings }
 {
     let frame = frame_of(settings);
-    let rate = rate_of(settings, frame);
     Scan {
         ticking: Ticking {
-            clock: ScanClock::Stopped,
-            rate: rate,
+            clock: None,
+            rate: rate_of(settings, frame),
         },
         latch: Latch {
             segments: [0; 2],
             latched: true,
         },
-        frame: frame,
+        frame,
         pwm: pwm_of(settings.gray_mode),
         row: 0,
         step: 0,
@@ -85,42 +83,36 @@ fn begun(settings: Settings, ram: &[u8], icons: &[u8]) -> Scan
     ensures { result ≡ begun_of settings ram.now icons.now }
 {
     let scan = taken(settings);
-    let segments = present_latch(scan, settings, ram, icons);
-    let latch = Latch {
-        segments: segments,
-        latched: true,
-    };
-    let mut next = scan;
-    next.latch = latch;
-    next
+    Scan {
+        latch: Latch {
+            segments: present_latch(scan, settings, ram, icons),
+            latched: true,
+        },
+        ..scan
+    }
 }
 
 // The counters stay.
 fn stopped(scan: Scan) -> Scan
     ensures { result ≡ stopped_of scan }
 {
-    let ticking = scan.ticking;
-    let rate = ticking.rate;
-    with_ticking(scan, ScanClock::Stopped, rate)
+    with_ticking(scan, None, scan.ticking.rate)
 }
 
 // A scan that runs: a missing clock starts at the moment, and oscillator control bit 0 drops it.
 fn clocked(scan: Scan, settings: Settings, moment: Time) -> Scan
     requires moment_value { in_range moment ≡ true }
     requires settings_value { valid_settings settings ≡ true }
-    requires scan_value { check_scan scan ≡ none }
+    requires scan_value { check_scan scan ≡ None }
     ensures { result ≡ clocked_of scan settings moment }
 {
     if settings.oscillator_control % 2 != 0 {
         return stopped(scan);
     }
-    let ticking = scan.ticking;
-    let clock = ticking.clock;
-    let ScanClock::Stopped = clock else {
+    if scan.ticking.clock.is_some() {
         return scan;
-    };
-    let frame = scan.frame;
-    let rate = rate_of(settings, frame);
+    }
+    let rate = rate_of(settings, scan.frame);
     with_ticking(scan, start_clock(moment, rate), rate)
 }
 
@@ -128,7 +120,7 @@ fn clocked(scan: Scan, settings: Settings, moment: Time) -> Scan
 fn resumed(scan: Scan, settings: Settings, moment: Time, runs: bool) -> Scan
     requires moment_value { in_range moment ≡ true }
     requires settings_value { valid_settings settings ≡ true }
-    requires scan_value { check_scan scan ≡ none }
+    requires scan_value { check_scan scan ≡ None }
     ensures { result ≡ resumed_of scan settings moment runs }
 {
     if runs {
@@ -148,7 +140,7 @@ pub(crate) fn updated(
 ) -> Scan
     requires moment_value { in_range moment ≡ true }
     requires settings_value { valid_settings settings ≡ true }
-    requires scan_value { check_scan scan ≡ none }
+    requires scan_value { check_scan scan ≡ None }
     requires ram_len { length ram.now ≡ 4096 }
     requires icons_len { length icons.now ≡ 256 }
     ensures { result ≡ updated_of scan settings moment running ram.now icons.now }
@@ -163,32 +155,24 @@ pub(crate) fn updated(
 impl Scan {
     // The scan as a byte has to find it: counted to its moment, and its latch retained where the byte
     // could alter the row being shown.
+    #[tactic(auto, using(crate::proofs::Checks::lent_facts))]
     pub fn before_byte(
         self,
         settings: Settings,
         moment: Time,
-        page: DataPage,
+        page: Option<u8>,
         ram: &[u8],
         icons: &[u8],
-    ) -> Changed
-        ensures { answered result ≡ before_byte self settings moment page ram.now icons.now }
+    ) -> Result<Scan, Refusal>
+        ensures { answered self result ≡ before_byte self settings moment page ram.now icons.now }
     {
-        let check = check_lent(self, settings.valid(), moment, ram, icons);
-        let Check::Passed = check else {
-            return Changed {
-                check: check,
-                scan: self,
-            };
-        };
+        check_lent(self, settings.valid(), moment, ram, icons)?;
         let counted = latest(self, settings, moment);
-        let scan = retained(counted, settings, page, ram, icons);
-        Changed {
-            check: Check::Passed,
-            scan: scan,
-        }
+        Ok(retained(counted, settings, page, ram, icons))
     }
 
     // The scan after a byte, with the settings and memory that it left.
+    #[tactic(auto, using(crate::proofs::Checks::lent_facts))]
     pub fn after_byte(
         self,
         settings: Settings,
@@ -196,59 +180,29 @@ impl Scan {
         running: Running,
         ram: &[u8],
         icons: &[u8],
-    ) -> Changed
-        ensures { answered result ≡ after_byte self settings moment running ram.now icons.now }
+    ) -> Result<Scan, Refusal>
+        ensures { answered self result ≡ after_byte self settings moment running ram.now icons.now }
     {
-        let check = check_lent(self, settings.valid(), moment, ram, icons);
-        let Check::Passed = check else {
-            return Changed {
-                check: check,
-                scan: self,
-            };
-        };
-        let scan = updated(self, settings, moment, running, ram, icons);
-        Changed {
-            check: Check::Passed,
-            scan: scan,
-        }
+        check_lent(self, settings.valid(), moment, ram, icons)?;
+        Ok(updated(self, settings, moment, running, ram, icons))
     }
 
     // The scan after a fall of the supply: counted to its moment, and its clock dropped. The checks
     // are those of the count.
-    pub fn fall(self, settings: Settings, now: Time) -> Changed
-        ensures { answered result ≡ fall_scan self settings now }
+    pub fn fall(self, settings: Settings, now: Time) -> Result<Scan, Refusal>
+        ensures { answered self result ≡ fall_scan self settings now }
     {
-        let counted = self.count_to(settings, now);
-        let check = counted.check;
-        let scan = counted.scan;
-        let Check::Passed = check else {
-            return Changed {
-                check: check,
-                scan: scan,
-            };
-        };
-        Changed {
-            check: Check::Passed,
-            scan: stopped(scan),
-        }
+        let counted = self.count_to(settings, now)?;
+        Ok(stopped(counted.scan))
     }
 
     // The scan after a warm rise of the supply, `runs` saying whether it runs. It counts as having
     // run before, so that none begins.
-    pub fn rise(self, settings: Settings, now: Time, runs: bool) -> Changed
-        ensures { answered result ≡ rise_scan self settings now runs }
+    #[tactic(auto, using(crate::proofs::Checks::timed_facts))]
+    pub fn rise(self, settings: Settings, now: Time, runs: bool) -> Result<Scan, Refusal>
+        ensures { answered self result ≡ rise_scan self settings now runs }
     {
-        let check = check_moment(self, settings.valid(), now);
-        let Check::Passed = check else {
-            return Changed {
-                check: check,
-                scan: self,
-            };
-        };
-        let scan = resumed(self, settings, now, runs);
-        Changed {
-            check: Check::Passed,
-            scan: scan,
-        }
+        check_moment(self, settings.valid(), now)?;
+        Ok(resumed(self, settings, now, runs))
     }
 }

@@ -2,11 +2,10 @@
 // of these words.
 ghost use Rattle.std.specs.Prelude.{◌≡◌, ◌+◌, ◌*◌, ◌^◌, ◌<◌, ◌≤◌, length};
 ghost use Rattle.scan.specs.Latch.{shade_active, words as words_of};
-ghost use Rattle.scan.specs.Planes.{AreBits};
 ghost use Rattle.scan.specs.Segments.{bits_at, active_shades, row_active, mask_of, pick, active_word, row_words};
 
 use crate::latch::ICON_ROW;
-use crate::planes::{bits_of, eight_planes, shown_shade};
+use crate::planes::{RowBits, shown_shade};
 use crate::settings::Settings;
 use crate::shade::pulse_width;
 use crate::state::Scan;
@@ -16,11 +15,12 @@ pub(crate) fn active_shades(scan: Scan, settings: Settings) -> [bool; 4]
     requires { scan.frc < 4 }
     ensures { result ≡ active_shades scan settings }
 {
-    let first = shade_active(scan, settings, shown_shade(settings, 0));
-    let second = shade_active(scan, settings, shown_shade(settings, 1));
-    let third = shade_active(scan, settings, shown_shade(settings, 2));
-    let fourth = shade_active(scan, settings, shown_shade(settings, 3));
-    [first, second, third, fourth]
+    [
+        shade_active(scan, settings, shown_shade(settings, 0)),
+        shade_active(scan, settings, shown_shade(settings, 1)),
+        shade_active(scan, settings, shown_shade(settings, 2)),
+        shade_active(scan, settings, shown_shade(settings, 3)),
+    ]
 }
 
 fn shade_active(scan: Scan, settings: Settings, shade: u8) -> bool
@@ -64,19 +64,16 @@ fn with_eight(word: u64, eight: u64) -> u64
 }
 
 // All segments from their bits: the planes of both words together, each from its high segments down.
-fn both_words(bits: &[u8; 256], active: [bool; 4], reversed: bool) -> [u64; 2]
-    requires { AreBits bits.now }
-    ensures { result ≡ words_of (row_active active bits.now reversed) }
+fn both_words(bits: &RowBits, active: [bool; 4], reversed: bool) -> [u64; 2]
+    ensures { result ≡ words_of (row_active active bits.now.bits reversed) }
 {
     let mut high: u64 = 0;
     let mut low: u64 = 0;
     let mut high2: u64 = 0;
     let mut low2: u64 = 0;
-    let mut left: usize = 8;
-    while left > 0 {
-        left -= 1;
-        let first = eight_planes(bits, reversed, 8 * left);
-        let second = eight_planes(bits, reversed, 8 * left + 64);
+    for left in (0..8).rev() {
+        let first = bits.eight_planes(reversed, 8 * left);
+        let second = bits.eight_planes(reversed, 8 * left + 64);
         high = with_eight(high, first % 256);
         low = with_eight(low, first / 256);
         high2 = with_eight(high2, second % 256);
@@ -89,19 +86,17 @@ fn both_words(bits: &[u8; 256], active: [bool; 4], reversed: bool) -> [u64; 2]
 }
 
 // The bits of a row of RAM, or of the icons.
-fn row_bits(row: u8, ram: &[u8], icons: &[u8], bits: &mut [u8; 256])
+fn row_bits(row: u8, ram: &[u8], icons: &[u8]) -> RowBits
     requires row_bound { row ≤ 128 }
     requires ram_len { length ram.now ≡ 4096 }
     requires icons_len { length icons.now ≡ 256 }
-    requires bits_len { length bits.old ≡ 256 }
-    ensures { bits.new ≡ bits_at row ram.now icons.now }
+    ensures { result.bits ≡ bits_at row ram.now icons.now }
 {
     if row == ICON_ROW {
-        bits_of(icons, 0, bits);
-        return;
+        return RowBits::new(icons, 0);
     }
-    let at = (row / 8) as usize * 256;
-    bits_of(&ram[at..at + 256], row % 8, bits);
+    let at = usize::from(row / 8) * 256;
+    RowBits::new(&ram[at..at + 256], row % 8)
 }
 
 // The latch of a row of RAM, or of the icons.
@@ -117,7 +112,5 @@ pub(crate) fn row_words(
     requires icons_len { length icons.now ≡ 256 }
     ensures { result ≡ row_words row active reversed ram.now icons.now }
 {
-    let mut bits = [0; 256];
-    row_bits(row, ram, icons, &mut bits);
-    both_words(&bits, active, reversed)
+    both_words(&row_bits(row, ram, icons), active, reversed)
 }

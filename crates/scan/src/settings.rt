@@ -4,7 +4,7 @@ ghost use Rattle.scan.specs.Settings.{pwm_of, frc_count_of, frame_of, rows_in, r
 
 use clock::Rate;
 
-#[derive(Clone, Copy)]
+#[derive(Clone, Copy, Debug, PartialEq, Eq)]
 pub struct Settings {
     pub start_line: u8,
     pub icon_enabled: bool,
@@ -22,7 +22,7 @@ pub struct Settings {
 }
 
 // The settings that a frame end takes, and the scan holds until the next.
-#[derive(Clone, Copy)]
+#[derive(Clone, Copy, Debug, PartialEq, Eq)]
 pub struct Frame {
     pub duty: u8,
     pub icon: bool,
@@ -38,8 +38,7 @@ const PWM: [u8; 4] = [9, 9, 12, 15];
 pub(crate) fn pwm_of(gray_mode: u8) -> u8
     ensures { result ≡ pwm_of gray_mode }
 {
-    let setting = (gray_mode % 4) as usize;
-    PWM[setting]
+    PWM[usize::from(gray_mode % 4)]
 }
 
 pub(crate) fn frc_count_of(gray_mode: u8) -> u8
@@ -65,9 +64,9 @@ pub(crate) fn rows_in(frame: Frame) -> u16
     ensures { result ≡ rows_in frame }
 {
     if frame.icon {
-        return (frame.duty as u16) + 1;
+        return u16::from(frame.duty) + 1;
     }
-    frame.duty as u16
+    u16::from(frame.duty)
 }
 
 // The rate of the settings and the rows of a frame.

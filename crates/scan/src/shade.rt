@@ -18,7 +18,7 @@ fn palette_width(palette: [u8; 8], shade: u8, phase: u8) -> u8
     requires phase_bound { phase < 4 }
     ensures { result ≡ palette_width palette shade phase }
 {
-    let byte = palette[(2 * shade + phase / 2) as usize];
+    let byte = palette[usize::from(2 * shade + phase / 2)];
     if phase % 2 == 0 { byte % 16 } else { byte / 16 }
 }
 
@@ -28,7 +28,6 @@ pub(crate) fn pulse_width(settings: Settings, shade: u8, phase: u8, pwm: u8) -> 
     requires phase_bound { phase < 4 }
     ensures { result ≡ pulse_width settings shade phase pwm }
 {
-    let palette = settings.palette;
-    let width = palette_width(palette, shade, phase);
+    let width = palette_width(settings.palette, shade, phase);
     if width <= pwm { width } else { 0 }
 }

@@ -1,37 +1,30 @@
 // The scan's own state, in groups: what one rule treats together is one struct.
-ghost use Rattle.std.specs.Prelude.{◌≡◌, true};
+ghost use Rattle.std.specs.Prelude.{◌≡◌, true, Some};
 ghost use Rattle.clock.specs.Time.{in_range};
 ghost use Rattle.clock.specs.Rate.{is_lcd};
 ghost use Rattle.clock.specs.Edges.{started};
 ghost use Rattle.scan.specs.State.{with_ticking, power_on};
 
 use crate::settings::Frame;
-use clock::{Clock, Made, Rate, Time};
+use clock::{Clock, Rate, Time};
 
-// The scan's clock, where it runs.
-#[derive(Clone, Copy)]
-pub enum ScanClock {
-    Running(Clock),
-    Stopped,
-}
-
-// The clock and the rate of the scan.
-#[derive(Clone, Copy)]
+// The clock of the scan, where it runs, and the scan's rate.
+#[derive(Clone, Copy, Debug, PartialEq, Eq)]
 pub struct Ticking {
-    pub clock: ScanClock,
+    pub clock: Option<Clock>,
     pub rate: Rate,
 }
 
 // The output latch. `segments` holds it where `latched`; elsewhere it is that of the present memory
-// and settings.
-#[derive(Clone, Copy)]
+// and settings. The C interface shows `segments` there too, so that this is no Option.
+#[derive(Clone, Copy, Debug, PartialEq, Eq)]
 pub struct Latch {
     pub segments: [u64; 2],
     pub latched: bool,
 }
 
 // The polarity, and the rows since it last changed where it changes every `lines` rows.
-#[derive(Clone, Copy)]
+#[derive(Clone, Copy, Debug, PartialEq, Eq)]
 pub struct Inversion {
     pub lines: u8,
     pub count: u8,
@@ -40,7 +33,7 @@ pub struct Inversion {
 
 // The scan: the settings in force since the last frame or row end, the counters, and the
 // output latch.
-#[derive(Clone, Copy)]
+#[derive(Clone, Copy, Debug, PartialEq, Eq)]
 pub struct Scan {
     pub ticking: Ticking,
     pub latch: Latch,
@@ -52,29 +45,22 @@ pub struct Scan {
     pub inversion: Inversion,
 }
 
-// A clock that starts at a moment.
-pub(crate) fn start_clock(at: Time, rate: Rate) -> ScanClock
+// A clock that starts at a moment. An LCD rate and a moment in range are not refused.
+pub(crate) fn start_clock(at: Time, rate: Rate) -> Option<Clock>
     requires at_value { in_range at ≡ true }
     requires rate_value { is_lcd rate ≡ true }
-    ensures { result ≡ ScanClock.Running (started at rate) }
+    ensures { result ≡ Some (started at rate) }
 {
-    // An LCD rate and a moment in range are not refused.
-    let Made::Clock(clock) = Clock::new(at, rate) else {
-        return ScanClock::Stopped;
-    };
-    ScanClock::Running(clock)
+    Clock::new(at, rate).ok()
 }
 
 // The scan with another clock and rate.
-pub(crate) fn with_ticking(scan: Scan, clock: ScanClock, rate: Rate) -> Scan
+pub(crate) fn with_ticking(scan: Scan, clock: Option<Clock>, rate: Rate) -> Scan
     ensures { result ≡ with_ticking scan (record { clock = clock; rate = rate }) }
 {
-    let ticking = Ticking {
-        clock: clock,
-        rate: rate,
-    };
+    // Not `Scan { ticking, ..scan }`: that copies field by field, and a byte takes some ns more.
     let mut next = scan;
-    next.ticking = ticking;
+    next.ticking = Ticking { clock, rate };
     next
 }
 
@@ -85,7 +71,7 @@ impl Scan {
     {
         Self {
             ticking: Ticking {
-                clock: ScanClock::Stopped,
+                clock: None,
                 rate: Rate {
                     numerator: 129024,
                     denominator: 1,

@@ -9,7 +9,7 @@ use Rattle.controller.specs.Bits.{unpacked}
 use Rattle.strike.specs.Marks.{marked, group_of}
 use Rattle.strike.specs.Line.{line_on, takes, is_whole, value, past, amid, taken_bit, follow_bit, follow_bits, accepted, follow_select, follow_data, follow_call, follow, may_strike, goes_on, allowed_taken, is_struck, allowed_bit, allowed_bits, unmarked, allowed_group, uncut, allowed_call, allowed_one}
 use Rattle.decimal.specs.Decimal.{digits, spelt, number_at, field_at}
-use Rattle.session.specs.Text.{names_line, starts_with, longer, lines_of}
+use Rattle.session.specs.Text.{names_line, longer, lines_of}
 use Rattle.session.specs.Line.{byte_word, dc_word, select_word, update_word, drive_word, value_at, look_of, action_of, line_of}
 use Rattle.session.specs.Struck.{kept_lines, joined, lines_behind, struck_text, may_mark, follow_mark, passes, allowed_lines}
 use Rattle.session.specs.Session.{call_of}
@@ -36,7 +36,7 @@ abbrev marks : List Bool
 marks = false ∷ true ∷ true ∷ []
 
 may : allowed_lines true line_on 0 (lines_behind text) marks ≡ true
-unfolding allowed_lines lines_of longer line_of action_of look_of value_at starts_with field_at number_at digits spelt may_mark follow_mark call_of passes group_ok unpacked awaits group_of marked unmarked follow follow_call follow_select follow_data follow_bits follow_bit taken_bit takes is_whole value past amid accepted allowed_one allowed_call allowed_group allowed_bits allowed_bit allowed_taken is_struck goes_on may_strike uncut
+unfolding allowed_lines lines_of longer line_of action_of look_of value_at field_at number_at digits spelt may_mark follow_mark call_of passes group_ok unpacked awaits group_of marked unmarked follow follow_call follow_select follow_data follow_bits follow_bit taken_bit takes is_whole value past amid accepted allowed_one allowed_call allowed_group allowed_bits allowed_bit allowed_taken is_struck goes_on may_strike uncut
 may = refl
 
 left : struck_text text marks ≡ names_line ++ line_at 48 select_word text1 ++ line_at 57 drive_word text0
@@ -45,5 +45,5 @@ left = refl
 
 -- 0 select 1, 1 dc 1, 7 byte 227
 may_not : allowed_lines true line_on 0 (lines_behind (names_line ++ line_at 48 select_word text1 ++ line_at 49 dc_word text1 ++ line_at 55 byte_word text227)) (false ∷ false ∷ true ∷ []) ≡ false
-unfolding allowed_lines lines_of longer line_of action_of look_of value_at starts_with field_at number_at digits spelt may_mark follow_mark call_of passes group_ok unpacked awaits group_of marked unmarked follow follow_call follow_select follow_data follow_bits follow_bit taken_bit takes is_whole value past amid accepted allowed_one allowed_call allowed_group allowed_bits allowed_bit allowed_taken is_struck goes_on may_strike uncut
+unfolding allowed_lines lines_of longer line_of action_of look_of value_at field_at number_at digits spelt may_mark follow_mark call_of passes group_ok unpacked awaits group_of marked unmarked follow follow_call follow_select follow_data follow_bits follow_bit taken_bit takes is_whole value past amid accepted allowed_one allowed_call allowed_group allowed_bits allowed_bit allowed_taken is_struck goes_on may_strike uncut
 may_not = refl

@@ -11,7 +11,9 @@ use lib.ListN.{length, drop, length-append, length-drop}
 use lib.Seq.{drop-append_seam}
 use borrow.Author.Tests.{leb-true, le-leb, eq-eqb, not-true}
 use Rattle.checks.proofs.Tests.{both}
-use Rattle.session.specs.Text.{names_line, starts_with, opens, longer, lines_of}
+use Rattle.std.specs.Prelude.{nat_eq}
+use Rattle.std.specs.List.{starts_with}
+use Rattle.session.specs.Text.{names_line, opens, longer, lines_of}
 use Rattle.session.specs.Struck.{first, others, kept_lines, joined, lines_behind, struck_text}
 
 -- ---- lines: a newline at the end of each and nowhere else; the last may lack it
@@ -116,16 +118,14 @@ kept_shorter (l ∷ ls) ks = go (first ks) (kept_shorter ls (others ks))
     go false h = omega (arith, length-append l (joined ls), length-append l (joined (kept_lines ls (others ks))))
 
 -- ---- the text that is left
-starts_itself : (word s : List ℕ) → starts_with (word ++ s) word ≡ true
-unfolding starts_with
+starts_itself : (word s : List ℕ) → starts_with nat_eq (word ++ s) word ≡ true
 starts_itself [] s = refl
 starts_itself (w ∷ ws) s = rw (eq-eqb w w refl) (starts_itself ws s)
 
-starts_long : (s word : List ℕ) → starts_with s word ≡ true → length word ≤ length s
-unfolding starts_with
+starts_long : (s word : List ℕ) → starts_with nat_eq s word ≡ true → length word ≤ length s
 starts_long s [] h = omega arith
 starts_long [] (w ∷ ws) h = absurd (false≢true h)
-starts_long (b ∷ s) (w ∷ ws) h = let le = starts_long s ws (both (eqb b w) (starts_with s ws) h).1 in omega arith
+starts_long (b ∷ s) (w ∷ ws) h = let le = starts_long s ws (both (eqb w b) (starts_with nat_eq s ws) h).1 in omega arith
 
 module _ (text : List ℕ) (ks : List Bool) where
   pub struck_lines : lines_behind (struck_text text ks) ≡ kept_lines (lines_behind text) ks
@@ -137,7 +137,7 @@ module _ (text : List ℕ) (ks : List Bool) where
   pub struck_opens : opens text ≡ true → opens (struck_text text ks) ≡ true
   unfolding opens struck_text
   struck_opens h =
-      let p = both (leb (length text) 65536) (starts_with text names_line) h in
+      let p = both (leb (length text) 65536) (starts_with nat_eq text names_line) h in
       let rest = drop (length names_line) text in
       let kept = joined (kept_lines (lines_behind text) ks) in
       let few : length (names_line ++ kept) ≤ 65536 =

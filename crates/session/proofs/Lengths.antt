@@ -3,7 +3,8 @@
 use Prim.Native.Nat.{ℕ, zero, suc, ◌+◌, ◌*◌, ◌≤◌, ◌<◌}
 use mathlib.Core.Bool.{Bool, true, false, cond}
 use mathlib.Core.List.{List, [], ◌∷◌, ◌++◌}
-use mathlib.Core.Option.{Option, none, some}
+use Rattle.std.specs.Prelude.{Option, None, Some, option_map, option_and_then, nat_eq}
+use lib.IntN.{pos}
 use mathlib.Core.Path.{◌≡◌, refl, sym, ◌∙◌, ap, subst}
 use native.Mathlib.Nat.{zero-add}
 use native.Mathlib.Omega.{arith}
@@ -24,20 +25,20 @@ use Rattle.decimal.proofs.Printing.{decimal_small, decimal_few, decimal_three, p
 use Rattle.decimal.proofs.Ends.{field_ends, field_behind}
 use Rattle.session.specs.declared.line.Action.{Action}
 use Rattle.session.specs.declared.line.Line.{Line}
-use Rattle.session.specs.declared.listing.Field.{Field}
 use Rattle.session.specs.declared.listing.Row.{Row}
 use Rattle.session.specs.declared.session.Ended.{Ended}
-use Rattle.session.specs.Text.{names_line, starts_with, opens, longer, lines_of}
-use Rattle.session.specs.Line.{byte_word, dc_word, select_word, supply_word, temp_word, deadline_word, update_word, drive_word, up_to, value_at, byte_of, data_of, select_of, supply_of, above_zero, below_zero, temperature_at, bare_of, look_of, action_of, line_with, line_of}
-use Rattle.session.specs.Listing.{field_text, common_field, inverted_field, level_field, frame_field, active_below, lit_of, row_of, drive_line, refusal_line, refusal_text, listing_names}
+use Rattle.std.specs.List.{starts_with}
+use Rattle.session.specs.Text.{names_line, opens, longer, lines_of}
+use Rattle.session.specs.Line.{byte_word, dc_word, select_word, supply_word, temp_word, deadline_word, update_word, drive_word, up_to, value_at, below_zero, temperature_at, look_of, action_of, line_with, line_of}
+use Rattle.session.specs.Listing.{field_text, inverted_field, frame_field, active_below, lit_of, row_of, drive_line, refusal_line, refusal_text, listing_names}
 use Rattle.session.specs.Session.{Turn, Run, Answer, room, check_of, wait_of, call_of, due_call, shown_of, moment_of, turn_of, onward, run_from, run_of, listing, laid, session, answered}
 
 -- fields
-field_few : (f : Field) (end : ℕ) → length (field_text f end) ≤ 21
-field_few (Field.Number n) end = omega (arith, decimal_few n, length-append (decimal n) (end ∷ []))
-field_few Field.Nothing end = omega arith
+field_few : (f : Option ℕ) (end : ℕ) → length (field_text f end) ≤ 21
+field_few (Some n) end = omega (arith, decimal_few n, length-append (decimal n) (end ∷ []))
+field_few None end = omega arith
 
-number_few : (n : ℕ) (end : ℕ) → n < 1000 → length (field_text (Field.Number n) end) ≤ 4
+number_few : (n : ℕ) (end : ℕ) → n < 1000 → length (field_text (Some n) end) ≤ 4
 number_few n end h = omega (arith, decimal_three n h, length-append (decimal n) (end ∷ []))
 
 lit_few : (words : List ℕ) (n : ℕ) → active_below words n ≤ n
@@ -67,12 +68,12 @@ drive_few : (us : ℕ) (r : Row) → r.lit < 1000 → length (drive_line us r) �
 unfolding drive_line
 drive_few us r h =
     rw sum_six
-    (omega (arith, field_few (Field.Number us) 32, field_few (common_field r.common) 32, inverted_few r.inverted 32, field_few (level_field r.v0) 32, number_few r.lit 32 h, field_few (frame_field r.common r.frame) 10))
+    (omega (arith, field_few (Some us) 32, field_few r.common 32, inverted_few r.inverted 32, field_few r.v0 32, number_few r.lit 32 h, field_few (frame_field r.common r.frame) 10))
 
 pub refusal_few : (r : Option (ℕ × ℕ)) → length (refusal_text r) ≤ 55
 unfolding refusal_text refusal_line
-refusal_few none = omega arith
-refusal_few (some at) = rw sum_four (omega (arith, field_few (Field.Number at.0) 32, field_few (Field.Number at.1) 10))
+refusal_few None = omega arith
+refusal_few (Some at) = rw sum_four (omega (arith, field_few (Some at.0) 32, field_few (Some at.1) 10))
 
 -- what an action may add to the listing
 ninety : Action → ℕ
@@ -84,87 +85,76 @@ ninety (Action.Temperature millicelsius) = 0
 ninety Action.Deadline = 0
 ninety Action.Update = 0
 ninety Action.Drive = 90
-ninety Action.Malformed = 0
+
+-- and what is read; a malformed line adds nothing
+by_action : Option Action → ℕ
+by_action None = 0
+by_action (Some a) = ninety a
+
+by_line : Option Line → ℕ
+by_line None = 0
+by_line (Some l) = ninety l.action
 
 -- it is little beside its line: a drive has ten bytes, two of them before its word
-record Fair (s : List ℕ) (a : Action) : Type 0 where
-  fair : ninety a ≤ 9 * (length s + 2)
+record Fair (s : List ℕ) (a : Option Action) : Type 0 where
+  fair : by_action a ≤ 9 * (length s + 2)
 
 module _ (s : List ℕ) where
-  pick : (t : Bool) {a b : Action} → Fair s a → Fair s b → Fair s (cond t a b)
+  pick : (t : Bool) {a b : Option Action} → Fair s a → Fair s b → Fair s (cond t a b)
   pick true f g = f
   pick false f g = g
 
-  idle : {a : Action} → ninety a ≡ 0 → Fair s a
+  malformed : Fair s None
+  unfolding by_action
+  malformed = record { fair = omega arith }
+
+  idle : {a : Action} → ninety a ≡ 0 → Fair s (Some a)
+  unfolding by_action
   idle h = record { fair = rw h (omega arith) }
 
-  byte_fair : (r : Read) → Fair s (byte_of r)
-  unfolding ninety
-  byte_fair (Read.Number value next) = idle refl
-  byte_fair Read.Malformed = idle refl
+  idle_of : (f : ℕ → Action) → ((value : ℕ) → ninety (f value) ≡ 0) → (o : Option ℕ) → Fair s (option_map f o)
+  idle_of f h None = malformed
+  idle_of f h (Some value) = idle (h value)
 
-  data_fair : (r : Read) → Fair s (data_of r)
+  below_fair : (o : Option ℕ) → Fair s (option_and_then below_zero o)
   unfolding ninety
-  data_fair (Read.Number value next) = idle refl
-  data_fair Read.Malformed = idle refl
+  below_fair None = malformed
+  below_fair (Some value) = pick (eqb value 0) malformed (idle refl)
 
-  select_fair : (r : Read) → Fair s (select_of r)
-  unfolding ninety
-  select_fair (Read.Number value next) = idle refl
-  select_fair Read.Malformed = idle refl
-
-  supply_fair : (r : Read) → Fair s (supply_of r)
-  unfolding ninety
-  supply_fair (Read.Number value next) = idle refl
-  supply_fair Read.Malformed = idle refl
-
-  above_fair : (r : Read) → Fair s (above_zero r)
-  unfolding ninety
-  above_fair (Read.Number value next) = idle refl
-  above_fair Read.Malformed = idle refl
-
-  below_fair : (r : Read) → Fair s (below_zero r)
-  unfolding ninety
-  below_fair (Read.Number value next) = pick (eqb value 0) (idle refl) (idle refl)
-  below_fair Read.Malformed = idle refl
-
-  bare_fair : (a : Action) → ninety a ≡ 0 → (r : Read) → Fair s (bare_of a r)
-  unfolding ninety
-  bare_fair a h (Read.Number value next) = idle h
-  bare_fair a h Read.Malformed = idle refl
-
-  drive_fair : (r : Read) → field_at s 6 10 ≡ r → Fair s (bare_of Action.Drive (up_to 0 r))
-  unfolding ninety
-  drive_fair Read.Malformed e = idle refl
-  drive_fair (Read.Number value next) e = go (leb value 0)
+  drive_fair : (o : Option Read) → field_at s 6 10 ≡ o → Fair s (option_map (λ value. Action.Drive) (up_to 0 o))
+  unfolding ninety by_action
+  drive_fair None e = malformed
+  drive_fair (Some n) e = go (leb n.value 0)
     where
-      go : (t : Bool) → Fair s (bare_of Action.Drive (cond t (Read.Number value next) Read.Malformed))
-      go true = record { fair = omega (arith, field_behind s 6 10 value next e, (field_ends s 6 10 value next e).within) }
-      go false = idle refl
+      go : (t : Bool) → Fair s (option_map (λ value. Action.Drive) (cond t (Some n.value) None))
+      go true = record { fair = omega (arith, field_behind s 6 10 n e, (field_ends s 6 10 n e).within) }
+      go false = malformed
 
   action_fair : Fair s (action_of s)
   unfolding action_of look_of temperature_at value_at ninety
   action_fair =
-      pick (starts_with s byte_word) (byte_fair (value_at s 5 255))
-      (pick (starts_with s dc_word) (data_fair (value_at s 3 1))
-      (pick (starts_with s select_word) (select_fair (value_at s 7 1))
-      (pick (starts_with s supply_word) (supply_fair (value_at s 7 65535))
-      (pick (starts_with s temp_word) (pick (eqb (get_or s 5 0) 45) (below_fair (value_at s 6 2147483648)) (above_fair (value_at s 5 2147483647)))
-      (pick (starts_with s deadline_word) (bare_fair Action.Deadline refl (value_at s 9 0))
-      (pick (starts_with s update_word) (bare_fair Action.Update refl (value_at s 7 0))
-      (pick (starts_with s drive_word) (drive_fair (field_at s 6 10) refl) (idle {a = Action.Malformed} refl))))))))
+      pick (starts_with nat_eq s byte_word) (idle_of Action.Byte (λ value. refl) (value_at s 5 255))
+      (pick (starts_with nat_eq s dc_word) (idle_of (λ value. Action.Data (eqb value 1)) (λ value. refl) (value_at s 3 1))
+      (pick (starts_with nat_eq s select_word) (idle_of (λ value. Action.Select (eqb value 1)) (λ value. refl) (value_at s 7 1))
+      (pick (starts_with nat_eq s supply_word) (idle_of Action.Supply (λ value. refl) (value_at s 7 65535))
+      (pick (starts_with nat_eq s temp_word)
+      (pick (eqb (get_or s 5 0) 45) (below_fair (value_at s 6 2147483648)) (idle_of (λ value. Action.Temperature (pos value)) (λ value. refl) (value_at s 5 2147483647)))
+      (pick (starts_with nat_eq s deadline_word) (idle_of (λ value. Action.Deadline) (λ value. refl) (value_at s 9 0))
+      (pick (starts_with nat_eq s update_word) (idle_of (λ value. Action.Update) (λ value. refl) (value_at s 7 0))
+      (pick (starts_with nat_eq s drive_word) (drive_fair (field_at s 6 10) refl) malformed)))))))
 
-line_fair : (l : List ℕ) → ninety (line_of l).action ≤ 9 * length l
-unfolding line_of ninety
+line_fair : (l : List ℕ) → by_line (line_of l) ≤ 9 * length l
+unfolding line_of by_line by_action
 line_fair l = go (field_at l 0 32) refl
   where
-    go : (r : Read) → field_at l 0 32 ≡ r → ninety (line_with l r).action ≤ 9 * length l
-    go Read.Malformed e = omega arith
-    go (Read.Number us next) e =
-        fair (drop next l) (omega (arith, length-drop next l, field_behind l 0 32 us next e, (field_ends l 0 32 us next e).within)) (action_fair (drop next l))
+    go : (o : Option Read) → field_at l 0 32 ≡ o → by_line (line_with l o) ≤ 9 * length l
+    go None e = omega arith
+    go (Some n) e =
+        fair (action_of (drop n.next l)) (omega (arith, length-drop n.next l, field_behind l 0 32 n e, (field_ends l 0 32 n e).within)) (action_fair (drop n.next l))
       where
-        fair : (s : List ℕ) → length s + 2 ≤ length l → Fair s (action_of s) → ninety (action_of s) ≤ 9 * length l
-        fair s h f = omega (arith, h, f.fair)
+        fair : (a : Option Action) → length (drop n.next l) + 2 ≤ length l → Fair (drop n.next l) a → by_line (option_map (λ (action : Action). record { us = n.value; action = action }) a) ≤ 9 * length l
+        fair None h f = omega arith
+        fair (Some a) h f = omega (arith, h, f.fair)
 
 -- what a line adds
 shown_few : (us : ℕ) (m : Machine) (now : Time) (a : Action) → length (shown_of us (call_of (wait_of m) now a) m) ≤ ninety a
@@ -177,25 +167,25 @@ shown_few us m now (Action.Temperature millicelsius) = omega arith
 shown_few us m now Action.Deadline = due (wait_of m)
   where
     due : (wait : Option Time) → length (shown_of us (due_call wait now) m) ≤ 0
-    due none = omega arith
-    due (some t) = ended (leb (raw t) (raw now))
+    due None = omega arith
+    due (Some t) = ended (leb (raw t) (raw now))
       where
-        ended : (b : Bool) → length (shown_of us (cond b (some (Call.Deadline t)) none) m) ≤ 0
+        ended : (b : Bool) → length (shown_of us (cond b (Some (Call.Deadline t)) None) m) ≤ 0
         ended true = omega arith
         ended false = omega arith
 shown_few us m now Action.Update = omega arith
 shown_few us m now Action.Drive =
     let d = drive_of m.state now m.ram m.icons in
     drive_few us (row_of d.1.0 d.1.1) (lit_small d.1.0.segments)
-shown_few us m now Action.Malformed = omega arith
 
-turn_few : (l : Line) (m : Machine) → length (turn_of l m).shown ≤ ninety l.action
-unfolding turn_of
-turn_few l m = go (check_of m (moment_of l.us) l.action) _ _ (shown_few l.us m (moment_of l.us) l.action)
+turn_few : (l : Option Line) (m : Machine) → length (turn_of l m).shown ≤ by_line l
+unfolding turn_of by_line
+turn_few None m = omega arith
+turn_few (Some l) m = go (check_of m (moment_of l.us) l.action) _ _ (shown_few l.us m (moment_of l.us) l.action)
   where
     go : (c : Option ℕ) (shown : List ℕ) (n : ℕ) → length shown ≤ n → length (unless_refused c shown []) ≤ n
-    go none shown n h = h
-    go (some k) shown n h = omega arith
+    go None shown n h = h
+    go (Some k) shown n h = omega arith
 
 -- all lines
 total : List (List ℕ) → ℕ
@@ -225,12 +215,12 @@ rows_few line (l ∷ ls) m =
     go :
         (c : Option ℕ) (t : Turn) → length t.shown ≤ 9 * length l → length (run_from (line + 1) ls t.machine).rows ≤ 9 * total ls
         → length (onward c line t (run_from (line + 1) ls)).rows ≤ 9 * (length l + total ls)
-    go none t h k = omega (arith, length-append t.shown (run_from (line + 1) ls t.machine).rows)
-    go (some number) t h k = omega arith
+    go None t h k = omega (arith, length-append t.shown (run_from (line + 1) ls t.machine).rows)
+    go (Some number) t h k = omega arith
 
 short : (text : List ℕ) → opens text ≡ true → length text ≤ 65536
 unfolding opens
-short text h = leb-true (length text) 65536 (both (leb (length text) 65536) (starts_with text names_line) h).0
+short text h = leb-true (length text) 65536 (both (leb (length text) 65536) (starts_with nat_eq text names_line) h).0
 
 -- no listing is longer than `room`
 pub listing_fits : (text : List ℕ) (m : Machine) → length (listing (run_of text m)) ≤ room
@@ -238,14 +228,14 @@ unfolding listing run_of
 listing_fits text m = go (opens text) refl
   where
     run : Bool → Run
-    run t = cond t (run_from 2 (lines_of (drop (length names_line) text)) m) (record { machine = m; rows = []; refusal = some (9, 1) })
+    run t = cond t (run_from 2 (lines_of (drop (length names_line) text)) m) (record { machine = m; rows = []; refusal = Some (9, 1) })
 
     go : (t : Bool) → opens text ≡ t → length (listing_names ++ (run t).rows ++ refusal_text (run t).refusal) ≤ 589824
     go true h =
         let rest = drop 14 text in
         let r = run_from 2 (lines_of rest) m in
         simp length-append (omega (arith, short text h, rows_few 2 (lines_of rest) m, total_lines rest, length-drop 14 text, refusal_few r.refusal))
-    go false h = simp length-append (omega (arith, refusal_few (some (9, 1))))
+    go false h = simp length-append (omega (arith, refusal_few (Some (9, 1))))
 
 -- so it stands whole at the start of lent bytes that are enough, the others as they were
 pub listing_whole :
@@ -271,7 +261,7 @@ within text ram icons out = go (leb room (length out))
     r = run_of text (start ram icons)
 
     answer : Bool → Answer
-    answer t = cond t (record { refusal = r.refusal; machine = r.machine; out = p.0; written = p.1 }) (record { refusal = some (19, 1); machine = start ram icons; out = out; written = 0 })
+    answer t = cond t (record { refusal = r.refusal; machine = r.machine; out = p.0; written = p.1 }) (record { refusal = Some (19, 1); machine = start ram icons; out = out; written = 0 })
 
     go : (t : Bool) → (answer t).written ≤ length (answer t).out
     go true = rw (put_length (out, 0) (listing r)) (put_within (out, 0) (listing r) (omega arith))

@@ -1,6 +1,5 @@
 -- The laws that proofs of functions use.
 mod Texts
-mod Fields
 mod Listings
 mod Turns
 mod Runs

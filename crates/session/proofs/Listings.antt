@@ -12,15 +12,15 @@ use lib.Pow.{mod-pow-add, pow_pos}
 use Rattle.decimal.specs.Print.{decimal, put_byte, put}
 use Rattle.decimal.proofs.Printing.{put_append, put_one}
 use Rattle.scan.specs.Drive.{active_in}
-use Rattle.session.specs.declared.listing.Field.{Field}
+use Rattle.std.specs.Prelude.{Some, None}
 use Rattle.session.specs.Listing.{field_text, active_below, lit_of}
 
 module _ (p : List ℕ × ℕ) where
-  pub dash_put : (end : ℕ) → put_byte (put_byte p 45) end ≡ put p (field_text Field.Nothing end)
+  pub dash_put : (end : ℕ) → put_byte (put_byte p 45) end ≡ put p (field_text None end)
   unfolding put
   dash_put end = refl
 
-  pub number_put : (n end : ℕ) → put_byte (put p (decimal n)) end ≡ put p (field_text (Field.Number n) end)
+  pub number_put : (n end : ℕ) → put_byte (put p (decimal n)) end ≡ put p (field_text (Some n) end)
   number_put n end = sym (put_one (put p (decimal n)) end) ∙ sym (put_append p (decimal n) (end ∷ []))
 
   pub put_four : (a b c d : List ℕ) → put (put (put (put p a) b) c) d ≡ put p (a ++ (b ++ (c ++ d)))

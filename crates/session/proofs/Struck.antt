@@ -3,12 +3,12 @@
 use Prim.Native.Nat.{ℕ, ◌+◌, ◌*◌, ◌^◌, ◌≤◌}
 use mathlib.Core.Bool.{Bool, true, false, cond, not, ◌&&◌, ◌||◌, false≢true}
 use mathlib.Core.List.{List, [], ◌∷◌, ◌++◌}
-use mathlib.Core.Option.{Option, none, some}
+use Rattle.std.specs.Prelude.{Option, None, Some}
 use mathlib.Core.Path.{◌≡◌, refl, sym, ◌∙◌, ap, ap₂, subst}
 use native.Mathlib.Omega.{arith}
 use lib.Dec.{leb}
 use lib.ListN.{replicate}
-use borrow.Author.Tests.{leb-true, ltb-true, lt-ltb}
+use borrow.Author.Tests.{leb-true, ltb-true, lt-ltb, not-true}
 use Rattle.checks.specs.Checks.{row, first_of, unless_refused}
 use Rattle.checks.proofs.Chains.{never, first_passed, row_passed}
 use Rattle.checks.proofs.Tests.{both}
@@ -31,8 +31,8 @@ use Rattle.session.specs.declared.line.Action.{Action}
 use Rattle.session.specs.declared.line.Line.{Line}
 use Rattle.session.specs.Line.{line_of}
 use Rattle.session.specs.Listing.{listing_names, refusal_text}
-use Rattle.session.specs.Session.{moment_of, wait_of, due_call, call_of, gives_moment, well_formed, refusal_of, after_of, shown_by, shown_of, check_of, Turn, turn_of, Run, onward, run_from, run_of, listing}
-use Rattle.session.specs.Struck.{first, others, kept_lines, lines_behind, struck_text, struck_of, stays, mark_of, may_mark, follow_mark, last_by, passes, allowed_lines, at_line, StruckText}
+use Rattle.session.specs.Session.{moment_of, wait_of, due_call, call_of, gives_moment, refusal_of, after_of, shown_by, shown_of, check_of, Turn, turn_of, Run, onward, run_from, run_of, listing}
+use Rattle.session.specs.Struck.{first, others, kept_lines, lines_behind, struck_text, struck_of, stays, mark_of, may_mark, follow_mark, last_by, passes, allowed_line, allowed_lines, at_line, StruckText}
 use Rattle.session.proofs.Joined.{struck_opens, struck_lines}
 
 -- ---- replies that are compared refuse and show the same
@@ -61,15 +61,15 @@ earlier_in_range t now le i = let h = ltb-true (raw now) (2 ^ 32 * 2 ^ 64) i in 
 -- a number by which a line is refused
 record Stopped (r : Option ℕ) : Type 0 where
   number : ℕ
-  is : r ≡ some number
+  is : r ≡ Some number
 
 -- ---- a line in both runs
 module _ (ok : Bool) (last : ℕ) (l : calls.Line) (m n : Machine) (w : Beside ok last l m n) (us : ℕ) where
   abbrev now : Time
   now = moment_of us
 
-  abbrev line : Action → Line
-  line a = record { us = us; action = a }
+  abbrev line : Action → Option Line
+  line a = Some (record { us = us; action = a })
 
   call_same : (a : Action) → call_of (wait_of n) now a ≡ call_of (wait_of m) now a
   unfolding call_of
@@ -81,7 +81,6 @@ module _ (ok : Bool) (last : ℕ) (l : calls.Line) (m n : Machine) (w : Beside o
   call_same Action.Deadline = ap (λ (wait : Option Time). due_call wait now) (waits_same ok last l m n w)
   call_same Action.Update = refl
   call_same Action.Drive = refl
-  call_same Action.Malformed = refl
 
   -- what a call, or none, does in both
   record Both (a : Action) (c : Option Call) : Type 0 where
@@ -89,7 +88,7 @@ module _ (ok : Bool) (last : ℕ) (l : calls.Line) (m n : Machine) (w : Beside o
     shows : shown_of us c n ≡ shown_of us c m
     next : (gives_moment a || in_range now) ≡ true → Beside ok (last_by a now last) (follow_mark ok l (stays c)) (after_of c m) (after_of c n)
 
-  by_call : (a : Action) (c : Call) → time_of c last ≡ last_by a now last → last ≤ last_by a now last → allowed_call ok l c ≡ true → Both a (some c)
+  by_call : (a : Action) (c : Call) → time_of c last ≡ last_by a now last → last ≤ last_by a now last → allowed_call ok l c ≡ true → Both a (Some c)
   unfolding follow_mark follow
   by_call a c e le h =
       let same = same_call ok last l m n w c (subst (λ (t : ℕ). last ≤ t) (sym e) le) h in
@@ -100,12 +99,12 @@ module _ (ok : Bool) (last : ℕ) (l : calls.Line) (m n : Machine) (w : Beside o
       }
 
   -- a line that makes no call
-  idle : (a : Action) → gives_moment a ≡ false → Both a none
+  idle : (a : Action) → gives_moment a ≡ false → Both a None
   unfolding follow_mark
   idle a g = record { refusals = refl; shows = refl; next = λ i. subst (λ (t : Bool). Beside ok (cond t (raw now) last) l m n) (sym g) w }
 
   -- the deadline call at the ready time
-  at_ready : (t : Time) → raw t ≤ raw now → Both Action.Deadline (some (Call.Deadline t))
+  at_ready : (t : Time) → raw t ≤ raw now → Both Action.Deadline (Some (Call.Deadline t))
   unfolding follow_mark follow follow_call reply
   at_ready t le =
       let same = deadlines_same ok last l m n w t in
@@ -117,10 +116,10 @@ module _ (ok : Bool) (last : ℕ) (l : calls.Line) (m n : Machine) (w : Beside o
 
   due : (wait : Option Time) → Both Action.Deadline (due_call wait now)
   unfolding due_call
-  due none = idle Action.Deadline refl
-  due (some t) = go (leb (raw t) (raw now)) refl
+  due None = idle Action.Deadline refl
+  due (Some t) = go (leb (raw t) (raw now)) refl
     where
-      go : (b : Bool) → leb (raw t) (raw now) ≡ b → Both Action.Deadline (cond b (some (Call.Deadline t)) none)
+      go : (b : Bool) → leb (raw t) (raw now) ≡ b → Both Action.Deadline (cond b (Some (Call.Deadline t)) None)
       go true e = at_ready t (leb-true (raw t) (raw now) e)
       go false e = idle Action.Deadline refl
 
@@ -134,18 +133,17 @@ module _ (ok : Bool) (last : ℕ) (l : calls.Line) (m n : Machine) (w : Beside o
   made Action.Deadline le h = due (wait_of m)
   made Action.Update le h = by_call Action.Update (Call.Update now) refl le h
   made Action.Drive le h = by_call Action.Drive (Call.Drive now) refl le h
-  made Action.Malformed le h = idle Action.Malformed refl
 
   -- whether a line passes is passes_is from the line and the lengths of memory
   abbrev is_none : Option ℕ → Bool
-  is_none none = true
-  is_none (some number) = false
+  is_none None = true
+  is_none (Some number) = false
 
   single : (i : Bool) → is_none (row 1 i) ≡ i
   single true = refl
   single false = refl
 
-  timed : (i : Bool) → is_none (first_of (row 1 i) none) ≡ i
+  timed : (i : Bool) → is_none (first_of (row 1 i) None) ≡ i
   timed true = refl
   timed false = refl
 
@@ -160,7 +158,7 @@ module _ (ok : Bool) (last : ℕ) (l : calls.Line) (m n : Machine) (w : Beside o
   grouped true false g = refl
   grouped false i g = refl
 
-  good : check_state m.state ≡ none
+  good : check_state m.state ≡ None
   good = full_state ok last l m n w
 
   passes_deadline : (i : Bool) → in_range now ≡ i → is_none (first_of (row 1 i) (refusal_of (due_call (wait_of m) now) m)) ≡ i
@@ -168,13 +166,13 @@ module _ (ok : Bool) (last : ℕ) (l : calls.Line) (m n : Machine) (w : Beside o
   passes_deadline false e = refl
   passes_deadline true e = go (wait_of m)
     where
-      ready : (t : Time) (b : Bool) → leb (raw t) (raw now) ≡ b → is_none (refusal_of (cond b (some (Call.Deadline t)) none) m) ≡ true
+      ready : (t : Time) (b : Bool) → leb (raw t) (raw now) ≡ b → is_none (refusal_of (cond b (Some (Call.Deadline t)) None) m) ≡ true
       ready t false h = refl
       ready t true h = rw (moment_alone m.state good t, earlier_in_range t now (leb-true (raw t) (raw now) h) e)
 
       go : (wait : Option Time) → is_none (refusal_of (due_call wait now) m) ≡ true
-      go none = refl
-      go (some t) = ready t (leb (raw t) (raw now)) refl
+      go None = refl
+      go (Some t) = ready t (leb (raw t) (raw now)) refl
 
   passes_is : (a : Action) → is_none (check_of m now a) ≡ passes ok now a
   unfolding check_of call_of passes accepted reply shift_in command_data select set_supply set_temperature update drive_of
@@ -186,30 +184,29 @@ module _ (ok : Bool) (last : ℕ) (l : calls.Line) (m n : Machine) (w : Beside o
   passes_is Action.Deadline = passes_deadline (in_range now) refl
   passes_is Action.Update = ap is_none (moment_alone m.state good now) ∙ single (in_range now)
   passes_is Action.Drive = ap is_none (lent_alone m.state good m.ram m.icons (full_lengths ok last l m n w) now) ∙ lent ok (in_range now)
-  passes_is Action.Malformed = refl
 
-  passed_line : (a : Action) → passes ok now a ≡ true → (turn_of (line a) m).refusal ≡ none
+  passed_line : (a : Action) → passes ok now a ≡ true → (turn_of (line a) m).refusal ≡ None
   unfolding turn_of
   passed_line a h = go (check_of m now a) (passes_is a ∙ h)
     where
-      go : (r : Option ℕ) → is_none r ≡ true → r ≡ none
-      go none h = refl
-      go (some number) h = absurd (false≢true h)
+      go : (r : Option ℕ) → is_none r ≡ true → r ≡ None
+      go None h = refl
+      go (Some number) h = absurd (false≢true h)
 
   refused_line : (a : Action) → passes ok now a ≡ false → Stopped (turn_of (line a) m).refusal
   unfolding turn_of
   refused_line a h = go (check_of m now a) (passes_is a ∙ h)
     where
       go : (r : Option ℕ) → is_none r ≡ false → Stopped r
-      go none h = absurd (false≢true (sym h))
-      go (some number) h = record { number = number; is = refl }
+      go None h = absurd (false≢true (sym h))
+      go (Some number) h = record { number = number; is = refl }
 
   -- a line that stays
   module _ (a : Action) (le : last ≤ last_by a now last) (h : may_mark ok l false (stays (call_of (wait_of m) now a)) ≡ true) where
     turn_refusal : (turn_of (line a) n).refusal ≡ (turn_of (line a) m).refusal
     unfolding turn_of check_of
     turn_refusal =
-        ap (λ (r : Option ℕ). first_of (row 9 (well_formed a)) (first_of (row 1 (gives_moment a || in_range now)) r))
+        ap (λ (r : Option ℕ). first_of (row 1 (gives_moment a || in_range now)) r)
         (ap (λ (c : Option Call). refusal_of c n) (call_same a) ∙ (made a le h).refusals)
 
     turn_shown : (turn_of (line a) n).shown ≡ (turn_of (line a) m).shown
@@ -217,13 +214,12 @@ module _ (ok : Bool) (last : ℕ) (l : calls.Line) (m n : Machine) (w : Beside o
     turn_shown = ap₂ (λ (r : Option ℕ) (s : List ℕ). unless_refused r s []) turn_refusal (ap (λ (c : Option Call). shown_of us c n) (call_same a) ∙ (made a le h).shows)
 
     turn_next :
-        (turn_of (line a) m).refusal ≡ none
+        (turn_of (line a) m).refusal ≡ None
         → Beside ok (last_by a now last) (follow_mark ok l (stays (call_of (wait_of m) now a))) (turn_of (line a) m).machine (turn_of (line a) n).machine
     unfolding turn_of check_of
     turn_next e =
-        let p = first_passed (row 9 (well_formed a)) _ e in
-        let q = first_passed (row 1 (gives_moment a || in_range now)) _ p.1 in
-        let i = row_passed 1 (gives_moment a || in_range now) q.0 in
+        let p = first_passed (row 1 (gives_moment a || in_range now)) _ e in
+        let i = row_passed 1 (gives_moment a || in_range now) p.0 in
         rw (e, turn_refusal ∙ e, call_same a) ((made a le h).next i)
 
   -- ---- a line that is struck
@@ -255,9 +251,8 @@ module _ (ok : Bool) (last : ℕ) (l : calls.Line) (m n : Machine) (w : Beside o
   struck Action.Deadline le h = absurd (false≢true h)
   struck Action.Update le h = record { silent = refl; next = step_gone ok last l m n w (Marked.Update now) refl le h }
   struck Action.Drive le h = absurd (false≢true h)
-  struck Action.Malformed le h = absurd (false≢true h)
 
-  module _ (a : Action) (le : last ≤ last_by a now last) (h : may_mark ok l true (struck_of now a) ≡ true) (e : (turn_of (line a) m).refusal ≡ none) where
+  module _ (a : Action) (le : last ≤ last_by a now last) (h : may_mark ok l true (struck_of now a) ≡ true) (e : (turn_of (line a) m).refusal ≡ None) where
     gone_next : Beside ok (last_by a now last) (follow_mark ok l (struck_of now a)) (turn_of (line a) m).machine n
     unfolding turn_of
     gone_next = rw e (struck a le h).next
@@ -268,8 +263,8 @@ module _ (ok : Bool) (last : ℕ) (l : calls.Line) (m n : Machine) (w : Beside o
 
 -- ---- the lines
 abbrev number_of : Option (ℕ × ℕ) → Option ℕ
-number_of none = none
-number_of (some at) = some at.0
+number_of None = None
+number_of (Some at) = Some at.0
 
 record Same (full kept : Run) : Type 0 where
   rows : kept.rows ≡ full.rows
@@ -277,13 +272,13 @@ record Same (full kept : Run) : Type 0 where
   ram : kept.machine.ram ≡ full.machine.ram
   icons : kept.machine.icons ≡ full.machine.icons
 
--- a line and the rest behind it
-module _ (t : List ℕ) (ts : List (List ℕ)) (ok : Bool) (last : ℕ) (l : calls.Line) (m n : Machine) (ks : List Bool) (i j : ℕ) (w : Beside ok last l m n) where
+-- a line that is read, and the rest behind it
+module _ (text : List ℕ) (t : Line) (read : line_of text ≡ Some t) (ts : List (List ℕ)) (ok : Bool) (last : ℕ) (l : calls.Line) (m n : Machine) (ks : List Bool) (i j : ℕ) (w : Beside ok last l m n) where
   abbrev act : Action
-  act = (line_of t).action
+  act = t.action
 
   abbrev moment : Time
-  moment = moment_of (line_of t).us
+  moment = moment_of t.us
 
   abbrev next_last : ℕ
   next_last = last_by act moment last
@@ -293,7 +288,7 @@ module _ (t : List ℕ) (ts : List (List ℕ)) (ok : Bool) (last : ℕ) (l : cal
   mark wait k = mark_of k moment act (call_of wait moment act)
 
   abbrev turn : Machine → Turn
-  turn x = turn_of (line_of t) x
+  turn x = turn_of (Some t) x
 
   abbrev kept : List (List ℕ)
   kept = kept_lines ts (others ks)
@@ -304,11 +299,11 @@ module _ (t : List ℕ) (ts : List (List ℕ)) (ok : Bool) (last : ℕ) (l : cal
     abbrev Onward : Bool → Type 0
     Onward k = allowed_lines ok (follow_mark ok l (mark (wait_of m) k)) next_last ts (others ks) ≡ true
 
-    struck_line : may_mark ok l true (mark (wait_of m) true) ≡ true → (turn m).refusal ≡ none → Onward true → Same (onward none i (turn m) (run_from (i + 1) ts)) (run_from j kept n)
+    struck_line : may_mark ok l true (mark (wait_of m) true) ≡ true → (turn m).refusal ≡ None → Onward true → Same (onward None i (turn m) (run_from (i + 1) ts)) (run_from j kept n)
     struck_line may e h =
-        let s = rest true n j (gone_next ok last l m n w (line_of t).us act le may e) h in
+        let s = rest true n j (gone_next ok last l m n w t.us act le may e) h in
         record {
-          rows = s.rows ∙ sym (ap (λ (r : List ℕ). r ++ (run_from (i + 1) ts (turn m).machine).rows) (gone_shown ok last l m n w (line_of t).us act le may e));
+          rows = s.rows ∙ sym (ap (λ (r : List ℕ). r ++ (run_from (i + 1) ts (turn m).machine).rows) (gone_shown ok last l m n w t.us act le may e));
           number = s.number;
           ram = s.ram;
           icons = s.icons;
@@ -316,46 +311,57 @@ module _ (t : List ℕ) (ts : List (List ℕ)) (ok : Bool) (last : ℕ) (l : cal
 
     module _ (may : may_mark ok l false (mark (wait_of m) false) ≡ true) where
       same_turn : (turn n).refusal ≡ (turn m).refusal
-      same_turn = turn_refusal ok last l m n w (line_of t).us act le may
+      same_turn = turn_refusal ok last l m n w t.us act le may
 
-      kept_line : (turn m).refusal ≡ none → Onward false → Same (onward none i (turn m) (run_from (i + 1) ts)) (onward none j (turn n) (run_from (j + 1) kept))
+      kept_line : (turn m).refusal ≡ None → Onward false → Same (onward None i (turn m) (run_from (i + 1) ts)) (onward None j (turn n) (run_from (j + 1) kept))
       kept_line e h =
-          let s = rest false (turn n).machine (j + 1) (turn_next ok last l m n w (line_of t).us act le may e) h in
-          record { rows = ap₂ ◌++◌ (turn_shown ok last l m n w (line_of t).us act le may) s.rows; number = s.number; ram = s.ram; icons = s.icons }
+          let s = rest false (turn n).machine (j + 1) (turn_next ok last l m n w t.us act le may e) h in
+          record { rows = ap₂ ◌++◌ (turn_shown ok last l m n w t.us act le may) s.rows; number = s.number; ram = s.ram; icons = s.icons }
 
       -- a refused line leaves what it was given
-      module _ (number : ℕ) (e : (turn m).refusal ≡ some number) where
+      module _ (number : ℕ) (e : (turn m).refusal ≡ Some number) where
         left_alone : (f : Machine → List ℕ) → f n ≡ f m → f (turn n).machine ≡ f (turn m).machine
         unfolding turn_of
         left_alone f same = rw (same_turn ∙ e, e) same
 
-        stopping_line : Same (onward (some number) i (turn m) (run_from (i + 1) ts)) (onward (some number) j (turn n) (run_from (j + 1) kept))
+        stopping_line : Same (onward (Some number) i (turn m) (run_from (i + 1) ts)) (onward (Some number) j (turn n) (run_from (j + 1) kept))
         stopping_line =
             let same = memory_same ok last l m n w in
             record { rows = refl; number = refl; ram = left_alone (λ (x : Machine). x.ram) same.0; icons = left_alone (λ (x : Machine). x.icons) same.1 }
 
     one_line : (k p : Bool) → passes ok moment act ≡ p → may_mark ok l k (mark (wait_of m) k) ≡ true
         → cond p (allowed_lines ok (follow_mark ok l (mark (wait_of m) k)) next_last ts (others ks)) (not k) ≡ true
-        → Same (onward (turn m).refusal i (turn m) (run_from (i + 1) ts)) (run_from j (cond k kept (t ∷ kept)) n)
+        → Same (onward (turn m).refusal i (turn m) (run_from (i + 1) ts)) (run_from j (cond k kept (text ∷ kept)) n)
     unfolding run_from
-    one_line true true e may h = let passed = passed_line ok last l m n w (line_of t).us act e in rw passed (struck_line may passed h)
+    one_line true true e may h = let passed = passed_line ok last l m n w t.us act e in rw passed (struck_line may passed h)
     one_line true false e may h = absurd (false≢true h)
-    one_line false true e may h = let passed = passed_line ok last l m n w (line_of t).us act e in rw (same_turn may ∙ passed, passed) (kept_line may passed h)
-    one_line false false e may h = let stop = refused_line ok last l m n w (line_of t).us act e in rw (same_turn may ∙ stop.is, stop.is) (stopping_line may stop.number stop.is)
+    one_line false true e may h = let passed = passed_line ok last l m n w t.us act e in rw (read, same_turn may ∙ passed, passed) (kept_line may passed h)
+    one_line false false e may h = let stop = refused_line ok last l m n w t.us act e in rw (read, same_turn may ∙ stop.is, stop.is) (stopping_line may stop.number stop.is)
 
 from : (ts : List (List ℕ)) (ok : Bool) (last : ℕ) (l : calls.Line) (m n : Machine) (ks : List Bool) (i j : ℕ) → Beside ok last l m n → allowed_lines ok l last ts ks ≡ true
     → Same (run_from i ts m) (run_from j (kept_lines ts ks) n)
-unfolding run_from kept_lines allowed_lines
+unfolding run_from kept_lines allowed_lines turn_of
 from [] ok last l m n ks i j w h = let e = memory_same ok last l m n w in record { rows = refl; number = refl; ram = e.0; icons = e.1 }
-from (t ∷ ts) ok last l m n ks i j w h =
-    let marked = mark t ts ok last l m n ks i j w (wait_of m) (first ks) in
-    let last' = next_last t ts ok last l m n ks i j w in
-    let by_state : leb last last' && (may_mark ok l (first ks) marked && cond (passes ok (moment_of (line_of t).us) (line_of t).action) (allowed_lines ok (follow_mark ok l marked) last' ts (others ks)) (not (first ks))) ≡ true = rw (full_wait ok last l m n w) h in
-    let p = both (leb last last') _ by_state in
-    let q = both (may_mark ok l (first ks) _) _ p.1 in
-    one_line t ts ok last l m n ks i j w (leb-true last _ p.0)
-    (λ k n' j' w' h'. from ts ok last' (follow_mark ok l (mark t ts ok last l m n ks i j w (wait_of m) k)) (turn_of (line_of t) m).machine n' (others ks) (i + 1) j' w' h')
-    (first ks) (passes ok (moment_of (line_of t).us) (line_of t).action) refl q.0 q.1
+from (text ∷ ts) ok last l m n ks i j w h =
+    go (line_of text) refl h (λ last' l' m' n' i' j' w' h'. from ts ok last' l' m' n' (others ks) i' j' w' h')
+  where
+    go : (o : Option Line) → line_of text ≡ o → allowed_line ok l last (first ks) o (λ l last. allowed_lines ok l last ts (others ks)) ≡ true
+        → ((last' : ℕ) (l' : calls.Line) (m' n' : Machine) (i' j' : ℕ) → Beside ok last' l' m' n' → allowed_lines ok l' last' ts (others ks) ≡ true
+        → Same (run_from i' ts m') (run_from j' (kept_lines ts (others ks)) n'))
+        → Same (onward (turn_of o m).refusal i (turn_of o m) (run_from (i + 1) ts)) (run_from j (cond (first ks) (kept_lines ts (others ks)) (text ∷ kept_lines ts (others ks))) n)
+    go None read h on =
+        let e = memory_same ok last l m n w in
+        let stays = not-true (first ks) h in
+        rw (stays, read) (record { rows = refl; number = refl; ram = e.0; icons = e.1 })
+    go (Some t) read h on =
+        let marked = mark text t read ts ok last l m n ks i j w (wait_of m) (first ks) in
+        let last' = next_last text t read ts ok last l m n ks i j w in
+        let by_state : leb last last' && (may_mark ok l (first ks) marked && cond (passes ok (moment_of t.us) t.action) (allowed_lines ok (follow_mark ok l marked) last' ts (others ks)) (not (first ks))) ≡ true = rw (full_wait ok last l m n w) h in
+        let p = both (leb last last') _ by_state in
+        let q = both (may_mark ok l (first ks) _) _ p.1 in
+        one_line text t read ts ok last l m n ks i j w (leb-true last _ p.0)
+        (λ k n' j' w' h'. on last' (follow_mark ok l (mark text t read ts ok last l m n ks i j w (wait_of m) k)) (turn_of (Some t) m).machine n' (i + 1) j' w' h')
+        (first ks) (passes ok (moment_of t.us) t.action) refl q.0 q.1
 
 -- ---- the text
 listing_same : {full kept : Run} → Same full kept → (line : ℕ) → listing (at_line line kept) ≡ listing (at_line line full)
@@ -363,14 +369,14 @@ unfolding listing
 listing_same {full} {kept} s line = ap₂ (λ (rows refused : List ℕ). listing_names ++ rows ++ refused) s.rows (go kept.refusal full.refusal s.number)
   where
     go : (r s : Option (ℕ × ℕ)) → number_of r ≡ number_of s → refusal_text (at_line line (record { machine = kept.machine; rows = []; refusal = r })).refusal ≡ refusal_text (at_line line (record { machine = full.machine; rows = []; refusal = s })).refusal
-    go none none e = refl
-    go none (some at) e = absurd (never (sym e))
-    go (some at) none e = absurd (never e)
-    go (some at) (some at') e = ap (λ (r : Option ℕ). refusal_text (numbered r)) e
+    go None None e = refl
+    go None (Some at) e = absurd (never (sym e))
+    go (Some at) None e = absurd (never e)
+    go (Some at) (Some at') e = ap (λ (r : Option ℕ). refusal_text (numbered r)) e
       where
         numbered : Option ℕ → Option (ℕ × ℕ)
-        numbered none = none
-        numbered (some number) = some (number, line)
+        numbered None = None
+        numbered (Some number) = Some (number, line)
 
 pub struck_text_lem : StruckText
 unfolding run_of

@@ -1,50 +1,61 @@
--- A word byte by byte, and a text line by line.
+-- A text line by line.
 use Prim.Native.Nat.{ℕ, suc, ◌+◌, ◌-◌, ◌≤◌, ◌<◌}
-use mathlib.Core.Bool.{Bool, true, false, cond}
+use mathlib.Core.Bool.{Bool, true, false, cond, not}
 use mathlib.Core.List.{List, [], ◌∷◌}
 use mathlib.Core.Path.{◌≡◌, refl, sym, ◌∙◌, ap}
-use native.Mathlib.Numerals.{add-one, one-add}
+use native.Mathlib.Numerals.{one-add}
 use native.Mathlib.Omega.{arith}
-use lib.Dec.{eqb}
-use lib.ListN.{length, get_or, take, drop, length-drop, drop_of_length-le}
-use lib.Seq.{drop-cons, drop-drop}
-use borrow.Author.Tests.{eq-eqb, ne_eqb}
-use Rattle.session.specs.Text.{starts_with, longer, lines_of, line_length}
+use lib.Dec.{eqb, ltb}
+use lib.ListN.{length, take, drop, length-drop, drop_of_length-le}
+use lib.Seq.{drop-drop}
+use borrow.Author.Tests.{ltb-true, ltb-false}
+use Rattle.std.specs.Prelude.{Some, None}
+use Rattle.std.specs.List.{position, position_or_len}
+use Rattle.std.proofs.lemmas.Option.{none-some, cond_some}
+use Rattle.session.specs.Text.{longer, lines_of, line_length}
 
--- a word from i on
-module _ (s word : List ℕ) (i : ℕ) where
-  pub starts_all : length word ≤ i → starts_with (drop i s) (drop i word) ≡ true
-  unfolding starts_with
-  starts_all h = rw (drop_of_length-le word h)
+-- how far the first line goes: behind its newline, or to the end
+abbrev is_newline : ℕ → Bool
+is_newline b = eqb b 10
 
-  module _ (within : i < length word) where
-    pub starts_short : length s ≤ i → starts_with (drop i s) (drop i word) ≡ false
-    unfolding starts_with
-    starts_short h = rw (drop_of_length-le s h, drop-cons word i 0 within)
+behind_newline : (s : List ℕ) (i : ℕ) → position_or_len is_newline s ≡ i → i < length s → line_length s ≡ i + 1
+unfolding line_length
+behind_newline [] i e h = absurd (omega arith)
+behind_newline (b ∷ s) i e h = go (eqb b 10) (behind_newline s (position_or_len is_newline s) refl) e
+  where
+    n : ℕ
+    n = position_or_len is_newline s
 
-    module _ (inside : i < length s) where
-      pub starts_differs : (get_or s i 0 ≡ get_or word i 0 → ⊥) → starts_with (drop i s) (drop i word) ≡ false
-      unfolding starts_with
-      starts_differs h = rw (drop-cons s i 0 inside, drop-cons word i 0 within, ne_eqb (get_or s i 0) (get_or word i 0) h)
+    go : (t : Bool) → (n < length s → line_length s ≡ n + 1) → cond (not t) (1 + n) 0 ≡ i → cond t 1 (1 + line_length s) ≡ i + 1
+    go true on e = omega arith
+    go false on e = omega (arith, on (omega arith))
 
-      pub starts_past : get_or s i 0 ≡ get_or word i 0 → starts_with (drop i s) (drop i word) ≡ starts_with (drop (i + 1) s) (drop (i + 1) word)
-      unfolding starts_with
-      starts_past h = rw (add-one i, drop-cons s i 0 inside, drop-cons word i 0 within, eq-eqb (get_or s i 0) (get_or word i 0) h)
+to_end : (s : List ℕ) → length s ≤ position_or_len is_newline s → line_length s ≡ length s
+unfolding line_length
+to_end [] h = refl
+to_end (b ∷ s) h = go (eqb b 10) (to_end s) h
+  where
+    n : ℕ
+    n = position_or_len is_newline s
 
--- how far the first line goes, from i on
-module _ (s : List ℕ) (i : ℕ) where
-  pub line_none : length s ≤ i → line_length (drop i s) ≡ 0
-  unfolding line_length
-  line_none h = rw (drop_of_length-le s h)
+    go : (t : Bool) → (length s ≤ n → line_length s ≡ length s) → suc (length s) ≤ cond (not t) (1 + n) 0 → cond t 1 (1 + line_length s) ≡ suc (length s)
+    go true on h = absurd (omega arith)
+    go false on h = omega (arith, on (omega arith))
 
-  module _ (inside : i < length s) where
-    pub line_here : get_or s i 0 ≡ 10 → line_length (drop i s) ≡ 1
-    unfolding line_length
-    line_here h = rw (drop-cons s i 0 inside, eq-eqb (get_or s i 0) 10 h)
+pub line_newline : (s : List ℕ) (i : ℕ) → position is_newline s ≡ Some i → line_length s ≡ i + 1
+line_newline s i h =
+    let p = cond_some (ltb (position_or_len is_newline s) (length s)) (position_or_len is_newline s) i h in
+    behind_newline s i p.1 (rw (← p.1) (ltb-true _ _ p.0))
 
-    pub line_past : (get_or s i 0 ≡ 10 → ⊥) → line_length (drop i s) ≡ 1 + line_length (drop (i + 1) s)
-    unfolding line_length
-    line_past h = rw (add-one i, drop-cons s i 0 inside, ne_eqb (get_or s i 0) 10 h)
+pub line_last : (s : List ℕ) → position is_newline s ≡ None → line_length s ≡ length s
+line_last s h = go (ltb (position_or_len is_newline s) (length s)) refl h
+  where
+    n : ℕ
+    n = position_or_len is_newline s
+
+    go : (u : Bool) → ltb n (length s) ≡ u → cond u (Some n) None ≡ None → line_length s ≡ length s
+    go true f e = absurd (none-some n (sym e))
+    go false f e = to_end s (ltb-false _ _ f)
 
 pub line_within : (l : List ℕ) → line_length l ≤ length l
 unfolding line_length

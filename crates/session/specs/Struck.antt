@@ -1,7 +1,6 @@
 -- Document 01, 'The tightness of contracts', e, over texts: a session whose update lines and, by demand 3's premises, lines `byte 227`
 -- are struck out has the same listing, but for the line number of a refusal. The proof is proofs/Struck.antt.
-use Rattle.std.specs.Prelude.{ℕ, Bool, true, false, cond, not, ◌&&◌, List, [], ◌∷◌, ◌++◌, ◌≡◌, leb, length, drop, replicate}
-use Rattle.std.proofs.Math.Option.{Option, none, some}
+use Rattle.std.specs.Prelude.{ℕ, Bool, true, false, cond, not, ◌&&◌, List, [], ◌∷◌, ◌++◌, ◌≡◌, leb, length, drop, replicate, Option, Some, None}
 use Rattle.clock.specs.declared.time.Time.{Time}
 use Rattle.clock.specs.Time.{raw, in_range}
 use Rattle.scan.specs.Check.{memory_ok}
@@ -9,6 +8,7 @@ use Rattle.strike.specs.Calls.{Call, start}
 use Rattle.strike.specs.Marks.{Marked}
 use Rattle.strike.specs.Line as calls
 use Rattle.session.specs.declared.line.Action.{Action}
+use Rattle.session.specs.declared.line.Line.{Line}
 use Rattle.session.specs.Text.{names_line, opens, lines_of}
 use Rattle.session.specs.Line.{line_of}
 use Rattle.session.specs.Session.{moment_of, call_of, gives_moment, Run, run_of, listing}
@@ -41,32 +41,31 @@ struck_text text ks = names_line ++ joined (kept_lines (lines_behind text) ks)
 -- ---- 'provided that'
 -- the call or bits that a struck line strikes: an update, or all eight bits of a byte; no other line can be struck
 abbrev pub struck_of : (now : Time) → Action → Option Marked
-struck_of now (Action.Byte value) = some (Marked.Bits now 8 value (replicate 8 true))
-struck_of now (Action.Data on) = none
-struck_of now (Action.Select on) = none
-struck_of now (Action.Supply millivolts) = none
-struck_of now (Action.Temperature millicelsius) = none
-struck_of now Action.Deadline = none
-struck_of now Action.Update = some (Marked.Update now)
-struck_of now Action.Drive = none
-struck_of now Action.Malformed = none
+struck_of now (Action.Byte value) = Some (Marked.Bits now 8 value (replicate 8 true))
+struck_of now (Action.Data on) = None
+struck_of now (Action.Select on) = None
+struck_of now (Action.Supply millivolts) = None
+struck_of now (Action.Temperature millicelsius) = None
+struck_of now Action.Deadline = None
+struck_of now Action.Update = Some (Marked.Update now)
+struck_of now Action.Drive = None
 
 -- a line that stays has its call, if it makes one
 abbrev pub stays : Option Call → Option Marked
-stays none = none
-stays (some c) = some (Marked.Whole c)
+stays None = None
+stays (Some c) = Some (Marked.Whole c)
 
 abbrev pub mark_of : (struck : Bool) → (now : Time) → Action → Option Call → Option Marked
 mark_of struck now a c = cond struck (struck_of now a) (stays c)
 
 -- demand 3 allows it, selected, supplied, ready and awaiting followed from the calls before
 unfoldable pub may_mark : (memory_ok : Bool) → calls.Line → (struck : Bool) → Option Marked → Bool
-may_mark ok l struck none = not struck
-may_mark ok l struck (some k) = calls.allowed_one ok l k
+may_mark ok l struck None = not struck
+may_mark ok l struck (Some k) = calls.allowed_one ok l k
 
 unfoldable pub follow_mark : (memory_ok : Bool) → calls.Line → Option Marked → calls.Line
-follow_mark ok l none = l
-follow_mark ok l (some k) = calls.follow ok l k
+follow_mark ok l None = l
+follow_mark ok l (Some k) = calls.follow ok l k
 
 -- moments that calls are given never fall
 abbrev pub last_by : Action → (now : Time) → (last : ℕ) → ℕ
@@ -82,18 +81,20 @@ passes ok now (Action.Temperature millicelsius) = in_range now
 passes ok now Action.Deadline = in_range now
 passes ok now Action.Update = in_range now
 passes ok now Action.Drive = ok && in_range now
-passes ok now Action.Malformed = false
 
--- line by line; a line that is refused is not struck, and no line is read behind it
+-- a line that is malformed or refused is not struck, and no line is read behind it
+abbrev pub allowed_line : (memory_ok : Bool) → calls.Line → (last : ℕ) → (struck : Bool) → Option Line → (rest : calls.Line → (last : ℕ) → Bool) → Bool
+allowed_line ok l last struck None rest = not struck
+allowed_line ok l last struck (Some t) rest =
+    let now = moment_of t.us in
+    let k = mark_of struck now t.action (call_of l.wait now t.action) in
+    leb last (last_by t.action now last)
+    && (may_mark ok l struck k
+    && cond (passes ok now t.action) (rest (follow_mark ok l k) (last_by t.action now last)) (not struck))
+
 unfoldable pub allowed_lines : (memory_ok : Bool) → calls.Line → (last : ℕ) → List (List ℕ) → (marks : List Bool) → Bool
 allowed_lines ok l last [] ks = true
-allowed_lines ok l last (t ∷ ts) ks =
-    let a = (line_of t).action in
-    let now = moment_of (line_of t).us in
-    let k = mark_of (first ks) now a (call_of l.wait now a) in
-    leb last (last_by a now last)
-    && (may_mark ok l (first ks) k
-    && cond (passes ok now a) (allowed_lines ok (follow_mark ok l k) (last_by a now last) ts (others ks)) (not (first ks)))
+allowed_lines ok l last (t ∷ ts) ks = allowed_line ok l last (first ks) (line_of t) (λ l last. allowed_lines ok l last ts (others ks))
 
 -- ---- the claim
 -- a session with its refusal at a line of this number, if it has one
@@ -101,8 +102,8 @@ abbrev pub at_line : (line : ℕ) → Run → Run
 at_line line r = record { machine = r.machine; rows = r.rows; refusal = moved_to line r.refusal }
   where
     moved_to : (line : ℕ) → Option (ℕ × ℕ) → Option (ℕ × ℕ)
-    moved_to line none = none
-    moved_to line (some at) = some (at.0, line)
+    moved_to line None = None
+    moved_to line (Some at) = Some (at.0, line)
 
 -- the listing of the text that is left is that of the text, but for the line number of a refusal; and at the end RAM and icons are
 -- the same

@@ -1,19 +1,14 @@
 -- Document 01, 'Session program': a text is bytes. Its first line is exactly `us call value`; a newline stands after each line.
-use Rattle.std.specs.Prelude.{ℕ, ◌+◌, Bool, true, false, cond, ◌&&◌, List, [], ◌∷◌, leb, eqb, length}
+use Rattle.std.specs.Prelude.{ℕ, ◌+◌, Bool, cond, ◌&&◌, List, [], ◌∷◌, leb, eqb, nat_eq, length}
+use Rattle.std.specs.List.{starts_with}
 
 -- `us call value` and its newline
 abbrev pub names_line : List ℕ
 names_line = 117 ∷ 115 ∷ 32 ∷ 99 ∷ 97 ∷ 108 ∷ 108 ∷ 32 ∷ 118 ∷ 97 ∷ 108 ∷ 117 ∷ 101 ∷ 10 ∷ []
 
--- bytes that start with certain others
-unfoldable pub starts_with : List ℕ → (word : List ℕ) → Bool
-starts_with s [] = true
-starts_with [] (w ∷ ws) = false
-starts_with (b ∷ s) (w ∷ ws) = eqb b w && starts_with s ws
-
 -- a text that is read: at most 65,536 bytes, the names line first
 unfoldable pub opens : List ℕ → Bool
-opens text = leb (length text) 65536 && starts_with text names_line
+opens text = leb (length text) 65536 && starts_with nat_eq text names_line
 
 -- the lines of what follows, each with its newline; the last may lack one
 unfoldable pub longer : ℕ → List (List ℕ) → List (List ℕ)

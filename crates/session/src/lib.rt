@@ -8,4 +8,4 @@ mod session;
 mod text;
 
 pub use listing::put_refusal;
-pub use session::{End, Ended, Why, number, run};
+pub use session::{Ended, Stop, Why, run};

@@ -1,13 +1,11 @@
 // A line: microseconds, a word and a value.
-ghost use Rattle.std.specs.Prelude.{◌≡◌, ◌≤◌, eqb, pos, neg_ℤ, get_or};
-ghost use Rattle.session.specs.Line.{up_to, value_at, byte_of, data_of, select_of, supply_of, above_zero, below_zero, temperature_at, bare_of, look_of, action_of, line_of};
-ghost use Rattle.session.specs.Closed.{NumberUpTo};
+ghost use Rattle.std.specs.Prelude.{◌≡◌, ◌≤◌, pos, neg_ℤ, IfSome};
+ghost use Rattle.session.specs.Line.{value_at as value_of, below_zero, temperature_at, look_of, action_of, line_of};
 
-use crate::text::starts;
 use decimal::Read;
 
 // The action that a word and its value ask for.
-#[derive(Clone, Copy)]
+#[derive(Clone, Copy, Debug, PartialEq, Eq)]
 pub enum Action {
     Byte(u8),
     Data(bool),
@@ -17,85 +15,22 @@ pub enum Action {
     Deadline,
     Update,
     Drive,
-    Malformed,
 }
 
-#[derive(Clone, Copy)]
+#[derive(Clone, Copy, Debug, PartialEq, Eq)]
 pub struct Line {
     pub us: u64,
     pub action: Action,
 }
 
-// A number up to a largest one.
-fn up_to(read: Read, most: u64) -> Read
-    ensures { result ≡ up_to most read }
-{
-    let Read::Number { value, next } = read else {
-        return Read::Malformed;
-    };
-    if value <= most {
-        return Read::Number {
-            value: value,
-            next: next,
-        };
-    }
-    Read::Malformed
-}
-
 // The value at a place, up to a largest one, with the newline behind it.
-fn value_at(s: &[u8], at: usize, most: u64) -> Read
-    ensures { result ≡ value_at s.now at most }
+#[tactic(auto, unfolding(crate::specs::Line::value_at))]
+fn value_at(s: &[u8], at: usize, most: u64) -> Option<u64>
+    ensures value { result ≡ value_of s.now at most }
+    ensures bound { IfSome result (λ value. value ≤ most) }
 {
-    up_to(decimal::field(s, at, b'\n'), most)
-}
-
-fn byte_of(read: Read) -> Action
-    requires { NumberUpTo 255 read }
-    ensures { result ≡ byte_of read }
-{
-    let Read::Number { value, next: _ } = read else {
-        return Action::Malformed;
-    };
-    Action::Byte(value as u8)
-}
-
-fn data_of(read: Read) -> Action
-    ensures { result ≡ data_of read }
-{
-    let Read::Number { value, next: _ } = read else {
-        return Action::Malformed;
-    };
-    Action::Data(value == 1)
-}
-
-fn select_of(read: Read) -> Action
-    ensures { result ≡ select_of read }
-{
-    let Read::Number { value, next: _ } = read else {
-        return Action::Malformed;
-    };
-    Action::Select(value == 1)
-}
-
-fn supply_of(read: Read) -> Action
-    requires { NumberUpTo 65535 read }
-    ensures { result ≡ supply_of read }
-{
-    let Read::Number { value, next: _ } = read else {
-        return Action::Malformed;
-    };
-    Action::Supply(value as u16)
-}
-
-// A temperature from 0 up.
-fn above_zero(read: Read) -> Action
-    requires { NumberUpTo 2147483647 read }
-    ensures { result ≡ above_zero read }
-{
-    let Read::Number { value, next: _ } = read else {
-        return Action::Malformed;
-    };
-    Action::Temperature(value as i32)
+    let value = decimal::field(s, at, b'\n')?.value;
+    (value <= most).then_some(value)
 }
 
 // The negative of a number of 32 bits.
@@ -106,98 +41,71 @@ fn negative(value: u64) -> i32
     (0 - value as i64) as i32
 }
 
-// One below 0, behind its minus.
-fn below_zero(read: Read) -> Action
-    requires { NumberUpTo 2147483648 read }
-    ensures { result ≡ below_zero read }
+// A temperature below 0, behind its minus.
+fn below_zero(value: u64) -> Option<Action>
+    requires { value ≤ 2147483648 }
+    ensures { result ≡ below_zero value }
 {
-    let Read::Number { value, next: _ } = read else {
-        return Action::Malformed;
-    };
     if value == 0 {
-        return Action::Malformed;
+        return None;
     }
-    Action::Temperature(negative(value))
+    Some(Action::Temperature(negative(value)))
 }
 
-// Whether a minus stands at place 5, behind `temp `.
-fn minus(s: &[u8]) -> bool
-    ensures { result ≡ eqb (get_or s.now 5 0) 45 }
-{
-    if s.len() <= 5 {
-        return false;
-    }
-    s[5] == b'-'
-}
-
-fn temperature_of(s: &[u8]) -> Action
+#[tactic(auto, unfolding(crate::specs::Line::temperature_at))]
+fn temperature_of(s: &[u8]) -> Option<Action>
     ensures { result ≡ temperature_at s.now 5 6 }
 {
-    if minus(s) {
-        return below_zero(value_at(s, 6, 2147483648));
+    if s.get(5).copied() == Some(b'-') {
+        return below_zero(value_at(s, 6, 2147483648)?);
     }
-    above_zero(value_at(s, 5, 2147483647))
+    Some(Action::Temperature(value_at(s, 5, 2147483647)? as i32))
 }
 
-// A word whose value is 0.
-fn bare_of(action: Action, read: Read) -> Action
-    ensures { result ≡ bare_of action read }
-{
-    let Read::Number { value: _, next: _ } = read else {
-        return Action::Malformed;
-    };
-    action
-}
-
-fn look_of(s: &[u8]) -> Action
+#[tactic(auto, unfolding(crate::specs::Line::look_of))]
+fn look_of(s: &[u8]) -> Option<Action>
     ensures { result ≡ look_of s.now }
 {
-    if starts(s, b"deadline ") {
-        return bare_of(Action::Deadline, value_at(s, 9, 0));
+    if s.starts_with(b"deadline ") {
+        return value_at(s, 9, 0).map(|_| Action::Deadline);
     }
-    if starts(s, b"update ") {
-        return bare_of(Action::Update, value_at(s, 7, 0));
+    if s.starts_with(b"update ") {
+        return value_at(s, 7, 0).map(|_| Action::Update);
     }
-    if starts(s, b"drive ") {
-        return bare_of(Action::Drive, value_at(s, 6, 0));
+    if s.starts_with(b"drive ") {
+        return value_at(s, 6, 0).map(|_| Action::Drive);
     }
-    Action::Malformed
+    None
 }
 
-fn action_of(s: &[u8]) -> Action
+#[tactic(auto, unfolding(crate::specs::Line::action_of))]
+fn action_of(s: &[u8]) -> Option<Action>
     ensures { result ≡ action_of s.now }
 {
-    if starts(s, b"byte ") {
-        return byte_of(value_at(s, 5, 255));
+    if s.starts_with(b"byte ") {
+        return Some(Action::Byte(value_at(s, 5, 255)? as u8));
     }
-    if starts(s, b"dc ") {
-        return data_of(value_at(s, 3, 1));
+    if s.starts_with(b"dc ") {
+        return Some(Action::Data(value_at(s, 3, 1)? == 1));
     }
-    if starts(s, b"select ") {
-        return select_of(value_at(s, 7, 1));
+    if s.starts_with(b"select ") {
+        return Some(Action::Select(value_at(s, 7, 1)? == 1));
     }
-    if starts(s, b"supply ") {
-        return supply_of(value_at(s, 7, 65535));
+    if s.starts_with(b"supply ") {
+        return Some(Action::Supply(value_at(s, 7, 65535)? as u16));
     }
-    if starts(s, b"temp ") {
+    if s.starts_with(b"temp ") {
         return temperature_of(s);
     }
     look_of(s)
 }
 
 // Reads a line, its newline included.
-pub(crate) fn line_of(s: &[u8]) -> Line
+#[tactic(auto, unfolding(crate::specs::Line::line_of))]
+pub(crate) fn line_of(s: &[u8]) -> Option<Line>
     ensures { result ≡ line_of s.now }
 {
-    let read = decimal::field(s, 0, b' ');
-    let Read::Number { value, next } = read else {
-        return Line {
-            us: 0,
-            action: Action::Malformed,
-        };
-    };
-    Line {
-        us: value,
-        action: action_of(&s[next..]),
-    }
+    let Read { value, next } = decimal::field(s, 0, b' ')?;
+    let action = action_of(&s[next..])?;
+    Some(Line { us: value, action })
 }

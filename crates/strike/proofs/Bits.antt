@@ -2,7 +2,7 @@
 use Prim.Native.Nat.{ℕ, suc, ◌+◌, ◌*◌, ◌%◌, ◌^◌, ◌≤◌, ◌<◌}
 use mathlib.Core.Bool.{Bool, true, false, cond, not, ◌&&◌}
 use mathlib.Core.List.{List, [], ◌∷◌}
-use mathlib.Core.Option.{none}
+use Rattle.std.specs.Prelude.{Option, None, Some}
 use mathlib.Core.Path.{◌≡◌, refl, ◌∙◌, ap}
 use native.Mathlib.Nat.{mod-eq_of_lt, pow-suc}
 use native.Mathlib.Numerals.{add-one}
@@ -16,21 +16,19 @@ use Rattle.clock.specs.declared.time.Time.{Time}
 use Rattle.scan.specs.declared.state.Scan.{Scan}
 use Rattle.scan.proofs.Checks as scans
 use Rattle.controller.specs.declared.state.Nt7508.{Nt7508}
-use Rattle.controller.specs.declared.state.Ready.{Ready}
 use Rattle.controller.specs.State.{with_scan, with_serial}
 use Rattle.controller.specs.Check.{valid_pending, valid_serial, check_state}
 use Rattle.controller.specs.Event.{unstored}
 use Rattle.controller.specs.Byte.{waiting, byte_taken}
 use Rattle.controller.specs.Bits.{Outcome, taking, with_bits, quiet, performed, bit_taken, edge}
-use Rattle.controller.specs.Look.{end_of}
 use Rattle.controller.proofs.Checks.{valid, valid_check}
 use Rattle.strike.specs.Line.{Line, ready, takes, is_whole, value}
 use Rattle.strike.proofs.Bytes.{state_of, Tied}
 
 -- bits are taken as the line says
-ready_is : (r : Ready) → not (waiting r) ≡ ready (end_of r)
-ready_is Ready.Now = refl
-ready_is (Ready.At t) = refl
+ready_is : (r : Option Time) → not (waiting r) ≡ ready r
+ready_is None = refl
+ready_is (Some t) = refl
 
 pub taking_is : (l : Line) (c : Nt7508) (bits : List Bool) (x : Scan) → Tied l c → taking (state_of c bits x) ≡ takes l
 unfolding taking takes state_of with_scan with_serial
@@ -49,12 +47,12 @@ pub value_byte : (bits : List Bool) → length bits ≤ 8 → value bits < 256
 value_byte bits h = let v = value_lt bits in omega (arith, pow_mono {i = length bits} {j = 8} h)
 
 -- a state that passes its checks has seven bits under way at most, and passes them with any such bits
-module _ (c : Nt7508) (bits : List Bool) (x : Scan) (ok : check_state (state_of c bits x) ≡ none) where
+module _ (c : Nt7508) (bits : List Bool) (x : Scan) (ok : check_state (state_of c bits x) ≡ None) where
   pub few_bits : length bits < 8
   unfolding state_of with_scan with_serial valid_serial
   few_bits = ltb-true (length bits) 8 (both _ (valid_pending c.serial.pending) (valid (state_of c bits x) ok).serial).0
 
-  pub other_bits : (bs : List Bool) → length bs < 8 → check_state (state_of c bs x) ≡ none
+  pub other_bits : (bs : List Bool) → length bs < 8 → check_state (state_of c bs x) ≡ None
   unfolding state_of with_scan with_serial valid_serial
   other_bits bs h = let v = valid (state_of c bits x) ok in valid_check (state_of c bs x) (record {
     serial = rw (lt-ltb (length bs) 8 h) (both (ltb (length bits) 8) _ v.serial).1;

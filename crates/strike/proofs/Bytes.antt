@@ -9,7 +9,7 @@ use Rattle.checks.proofs.Tests.{both}
 use Rattle.clock.specs.declared.time.Time.{Time}
 use Rattle.clock.specs.Time.{in_range}
 use Rattle.scan.specs.declared.state.Scan.{Scan}
-use Rattle.scan.specs.declared.latch.DataPage.{DataPage}
+use Rattle.std.specs.Prelude.{Option, None, Some}
 use Rattle.scan.specs.Count.{count_to}
 use Rattle.scan.specs.Latch.{retained}
 use Rattle.scan.specs.Run.{running_after, updated}
@@ -19,7 +19,6 @@ use Rattle.scan.specs.Byte.{has_clock}
 use Rattle.scan.proofs.Runs.{Quiet, updated_same, updated_quiet, count_to_quiet, retained_quiet}
 use Rattle.scan.proofs.Agree.{Agree, as_shown, agree_retained, command_same, data_agree}
 use Rattle.controller.specs.declared.state.Nt7508.{Nt7508}
-use Rattle.controller.specs.declared.event.Store.{Store}
 use Rattle.controller.specs.declared.event.Stepped.{Stepped}
 use Rattle.controller.specs.State.{with_scan, with_address, with_serial}
 use Rattle.controller.specs.Check.{awaits}
@@ -27,7 +26,6 @@ use Rattle.controller.specs.Event.{ram_after, icons_after}
 use Rattle.controller.specs.Command.{acted}
 use Rattle.controller.specs.Byte.{conditions_of, page_sent, data_step, step_of, byte_taken}
 use Rattle.controller.specs.Bits.{with_bits}
-use Rattle.controller.specs.Look.{end_of}
 use Rattle.controller.proofs.Bytes.{step_leaves}
 use Rattle.controller.proofs.Parts.{is_awaiting, scan_after, beside_scan, step_scan, byte_parts, step_awaiting, step_data, step_stores, step_idle, store_outside}
 use Rattle.strike.specs.Line.{Line, value, takes, past}
@@ -43,7 +41,7 @@ pub record Tied (l : Line) (c : Nt7508) : Type 0 where
   pub awaiting : is_awaiting c.serial.pending ≡ l.awaiting
   pub supplied : c.power.supplied ≡ l.supplied
   pub cold : c.power.cold ≡ l.cold
-  pub wait : end_of c.power.ready ≡ l.wait
+  pub wait : c.power.ready ≡ l.wait
 
 -- whether the scan runs, by the registers
 abbrev pub running : Nt7508 → Bool
@@ -98,7 +96,7 @@ module _ (c : Nt7508) (v : ℕ) (now : Time) (ram icons : List ℕ) where
       awaiting = step_awaiting base v now ∙ ap₂ (λ (d w : Bool). cond d w (not w && awaits v)) t.is_data t.awaiting;
       supplied = k.supplied ∙ t.supplied;
       cold = k.cold ∙ t.cold;
-      wait = ap end_of k.ready ∙ t.wait;
+      wait = k.ready ∙ t.wait;
     }
 
     -- the scan that the byte finds is quiet
@@ -109,10 +107,10 @@ module _ (c : Nt7508) (v : ℕ) (now : Time) (ram icons : List ℕ) where
     before_same : c.serial.«data» ≡ false → before x ≡ before y
     unfolding with_serial
     before_same d =
-        let page = ap (λ (t : Bool). cond t (DataPage.Page c.address.page) DataPage.None) d in
-        ap (λ (p : DataPage). retained (count_to x c.display now) c.display p ram icons) page
+        let page = ap (λ (t : Bool). cond t (Some c.address.page) None) d in
+        ap (λ (p : Option ℕ). retained (count_to x c.display now) c.display p ram icons) page
         ∙ command_same c.display ram icons vs now i x y vx vy a.agree
-        ∙ sym (ap (λ (p : DataPage). retained (count_to y c.display now) c.display p ram icons) page)
+        ∙ sym (ap (λ (p : Option ℕ). retained (count_to y c.display now) c.display p ram icons) page)
 
     -- data is for the row shown of both, which then keep their latches, or of neither
     abbrev sent : Stepped
@@ -126,14 +124,14 @@ module _ (c : Nt7508) (v : ℕ) (now : Time) (ram icons : List ℕ) where
     unfolding data_step with_address with_serial
     agree_sent d =
         let q = a.quiet is_supplied in
-        let page = ap (λ (t : Bool). cond t (DataPage.Page c.address.page) DataPage.None) d in
+        let page = ap (λ (t : Bool). cond t (Some c.address.page) None) d in
         let m = ram_after sent.store ram in
         let n = icons_after sent.store icons in
         ap (λ (z : Scan). as_shown (count_to z c.display now) c.display m n)
-        (sent_same (before x) (before_quiet x q.0) ∙ ap (λ (p : DataPage). retained (count_to x c.display now) c.display p ram icons) page)
-        ∙ data_agree c.display ram icons vs now i x y vx vy a.agree (DataPage.Page c.address.page) m n (λ z h. store_outside c.address v z c.display ram icons h)
+        (sent_same (before x) (before_quiet x q.0) ∙ ap (λ (p : Option ℕ). retained (count_to x c.display now) c.display p ram icons) page)
+        ∙ data_agree c.display ram icons vs now i x y vx vy a.agree (Some c.address.page) m n (λ z h. store_outside c.address v z c.display ram icons h)
         ∙ sym (ap (λ (z : Scan). as_shown (count_to z c.display now) c.display m n)
-        (sent_same (before y) (before_quiet y q.1) ∙ ap (λ (p : DataPage). retained (count_to y c.display now) c.display p ram icons) page))
+        (sent_same (before y) (before_quiet y q.1) ∙ ap (λ (p : Option ℕ). retained (count_to y c.display now) c.display p ram icons) page))
 
     agree_past : Agree (onward step (before x)) (onward step (before y)) step.state.display now (ram_after step.store ram) (icons_after step.store icons)
     unfolding with_serial
@@ -171,7 +169,7 @@ module _ (c : Nt7508) (v : ℕ) (now : Time) (ram icons : List ℕ) where
           ∙ updated_same (before x) c.display now (running c) (ram_after step.store ram) (icons_after step.store icons) (before_quiet x (a.quiet is_supplied).0)
 
       -- it leaves the registers, and a scan that agrees with the other run's
-      pub idle_on : byte_taken (state_of c [] x) v now ram icons ≡ record { state = state_of c [] (before x); event = step.event; store = Store.Nothing }
+      pub idle_on : byte_taken (state_of c [] x) v now ram icons ≡ record { state = state_of c [] (before x); event = step.event; store = None }
       unfolding state_of with_scan with_serial value
       idle_on =
           byte_on x

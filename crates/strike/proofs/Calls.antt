@@ -2,7 +2,7 @@
 use Prim.Native.Nat.{ℕ}
 use mathlib.Core.Bool.{Bool, true, false, cond, beq}
 use mathlib.Core.List.{List, []}
-use mathlib.Core.Option.{Option, none, some}
+use Rattle.std.specs.Prelude.{Option, None, Some}
 use mathlib.Core.Path.{◌≡◌, refl, sym, ◌∙◌, ap}
 use lib.IntN.{ℤ}
 use lib.ListN.{length}
@@ -19,12 +19,10 @@ use Rattle.scan.proofs.Agree.{no_clock, agree_both, agree_counted}
 use Rattle.scan.proofs.Drives.{counted_passes}
 use Rattle.controller.specs.declared.state.Nt7508.{Nt7508}
 use Rattle.controller.specs.declared.state.Power.{Power}
-use Rattle.controller.specs.declared.state.Ready.{Ready}
 use Rattle.controller.specs.State.{with_scan, with_power, with_serial}
 use Rattle.controller.specs.Check.{check_state, check_moment}
 use Rattle.controller.specs.Supply.{selected_as, with_data, with_temperature, with_ready, deadline_met, select, command_data, set_temperature, at_deadline}
 use Rattle.controller.specs.Update.{counted_to, update}
-use Rattle.controller.specs.Look.{end_of}
 use Rattle.controller.proofs.Checks.{valid, valid_check, with_scan_valid, timed_check}
 use Rattle.controller.proofs.Supplies.{select_valid, line_valid, temperature_valid, deadline_valid}
 use Rattle.strike.specs.Calls.{Call, Machine, after}
@@ -35,16 +33,16 @@ use Rattle.strike.proofs.Bits.{settings_valid, scan_valid}
 use Rattle.strike.proofs.Runs.{Runs, kept_under, machine}
 
 -- what a call leaves and answers where its check passes
-pub new_of : {A : Type 0} {check : Option ℕ} (new given : A) → check ≡ none → (changed check new given).1 ≡ new
+pub new_of : {A : Type 0} {check : Option ℕ} (new given : A) → check ≡ None → (changed check new given).1 ≡ new
 new_of {A} new given h = ap (λ (c : Option ℕ). (changed c new given).1) h
 
-given_of : {A : Type 0} {check : Option ℕ} {n : ℕ} (new given : A) → check ≡ some n → (changed check new given).1 ≡ given
+given_of : {A : Type 0} {check : Option ℕ} {n : ℕ} (new given : A) → check ≡ Some n → (changed check new given).1 ≡ given
 given_of {A} new given h = ap (λ (c : Option ℕ). (changed c new given).1) h
 
 -- ---- a call that does f to a state that passes
 module _ {ok : Bool} {at : Time} {l : Line} {m n : Machine} (w : Runs ok at l m n) (call : Call) (f : Nt7508 → Nt7508)
-    (does : (s : Nt7508) (ram icons : List ℕ) → check_state s ≡ none → after call (machine s ram icons) ≡ machine (f s) ram icons)
-    (keeps : (s : Nt7508) → check_state s ≡ none → check_state (f s) ≡ none) where
+    (does : (s : Nt7508) (ram icons : List ℕ) → check_state s ≡ None → after call (machine s ram icons) ≡ machine (f s) ram icons)
+    (keeps : (s : Nt7508) → check_state s ≡ None → check_state (f s) ≡ None) where
   pub both_do : (l' : Line) (c' : Nt7508) (x' y' : Scan)
       → f (state_of w.c l.bits w.x) ≡ state_of c' l'.bits x'
       → f (state_of w.c (kept_under l) w.y) ≡ state_of c' (kept_under l') y'
@@ -142,7 +140,7 @@ module _ {ok : Bool} {at : Time} {l : Line} {m n : Machine} (w : Runs ok at l m 
 
 -- ---- calls with a moment, in range
 module _ {ok : Bool} (now : Time) {l : Line} {m n : Machine} (w : Runs ok now l m n) (i : in_range now ≡ true) where
-  pub timely : (s : Nt7508) → check_state s ≡ none → check_moment s now ≡ none
+  pub timely : (s : Nt7508) → check_state s ≡ None → check_moment s now ≡ None
   timely s h = timed_check s now (record { in_range_lem = i; state = h })
 
   pub vs : scans.ValidSettings w.c.display
@@ -158,13 +156,13 @@ module _ {ok : Bool} (now : Time) {l : Line} {m n : Machine} (w : Runs ok now l 
   no_clock_counted z h = ap (λ (z : Scan). has_clock z.ticking.clock) (no_clock w.c.display w.ram w.icons z now h) ∙ h
 
   -- an update counts for good
-  counted_ok : (s : Nt7508) → check_state s ≡ none → check_state (counted_to s now) ≡ none
+  counted_ok : (s : Nt7508) → check_state s ≡ None → check_state (counted_to s now) ≡ None
   unfolding counted_to
   counted_ok s h =
       let v = valid s h in
       valid_check (with_scan s (count_to s.scan s.display now)) (with_scan_valid s v (count_to s.scan s.display now) (counted_passes s.scan s.display now i v.display v.scan))
 
-  counts : (s : Nt7508) (ram icons : List ℕ) → check_state s ≡ none → after (Call.Update now) (machine s ram icons) ≡ machine (counted_to s now) ram icons
+  counts : (s : Nt7508) (ram icons : List ℕ) → check_state s ≡ None → after (Call.Update now) (machine s ram icons) ≡ machine (counted_to s now) ram icons
   unfolding after update
   counts s ram icons h = ap (λ (r : Nt7508 × ℕ). machine r.0 ram icons) (new_of (counted_to s now, _) (s, 0) (timely s h))
 
@@ -204,17 +202,17 @@ module _ {ok : Bool} (now : Time) {l : Line} {m n : Machine} (w : Runs ok now l 
 
 -- ---- the deadline call: it counts nothing, so its moment need not be later than the last one
 module _ {ok : Bool} {at : Time} (now : Time) {l : Line} {m n : Machine} (w : Runs ok at l m n) (i : in_range now ≡ true) where
-  met : (p : Power) (r : Ready) → deadline_met p r now ≡ cond (is_at (end_of r) now) (with_ready p false Ready.Now) p
+  met : (p : Power) (r : Option Time) → deadline_met p r now ≡ cond (is_at r now) (with_ready p false None) p
   unfolding deadline_met is_at
-  met p Ready.Now = refl
-  met p (Ready.At t) = refl
+  met p None = refl
+  met p (Some t) = refl
 
   -- it ends the wait, or leaves all
   line_met : Bool → Line
-  line_met t = cond t (line.with_power l l.supplied false none) l
+  line_met t = cond t (line.with_power l l.supplied false None) l
 
   met_registers : Bool → Nt7508
-  met_registers t = with_power w.c (cond t (with_ready w.c.power false Ready.Now) w.c.power)
+  met_registers t = with_power w.c (cond t (with_ready w.c.power false None) w.c.power)
 
   ends_wait : Nt7508 → Nt7508
   ends_wait s = with_power s (deadline_met s.power s.power.ready now)
@@ -223,7 +221,7 @@ module _ {ok : Bool} {at : Time} (now : Time) {l : Line} {m n : Machine} (w : Ru
   unfolding ends_wait met_registers state_of with_scan with_serial with_power
   ends_is t e bits z =
       ap (λ (p : Power). with_power (state_of w.c bits z) p)
-      (met w.c.power w.c.power.ready ∙ ap (λ (t : Bool). cond t (with_ready w.c.power false Ready.Now) w.c.power) (ap (λ (d : Option Time). is_at d now) w.alike.tied.wait ∙ e))
+      (met w.c.power w.c.power.ready ∙ ap (λ (t : Bool). cond t (with_ready w.c.power false None) w.c.power) (ap (λ (d : Option Time). is_at d now) w.alike.tied.wait ∙ e))
 
   met_alike : (t : Bool) → Alike at (line_met t) (met_registers t) w.x w.y w.ram w.icons
   unfolding line_met met_registers with_power runs
@@ -240,11 +238,11 @@ module _ {ok : Bool} {at : Time} (now : Time) {l : Line} {m n : Machine} (w : Ru
   met_bits true = (refl, refl)
   met_bits false = (refl, refl)
 
-  does_end : (s : Nt7508) (ram icons : List ℕ) → check_state s ≡ none → after (Call.Deadline now) (machine s ram icons) ≡ machine (ends_wait s) ram icons
+  does_end : (s : Nt7508) (ram icons : List ℕ) → check_state s ≡ None → after (Call.Deadline now) (machine s ram icons) ≡ machine (ends_wait s) ram icons
   unfolding after at_deadline ends_wait
   does_end s ram icons h = ap (λ (s : Nt7508). machine s ram icons) (new_of (ends_wait s) s (timed_check s now (record { in_range_lem = i; state = h })))
 
-  keeps_end : (s : Nt7508) → check_state s ≡ none → check_state (ends_wait s) ≡ none
+  keeps_end : (s : Nt7508) → check_state s ≡ None → check_state (ends_wait s) ≡ None
   unfolding ends_wait
   keeps_end s h = valid_check (ends_wait s) (deadline_valid s now (valid s h))
 

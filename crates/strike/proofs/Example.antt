@@ -4,7 +4,7 @@
 use Prim.Native.Nat.{ℕ, ◌^◌, ◌≤◌}
 use mathlib.Core.Bool.{Bool, true, false, false≢true}
 use mathlib.Core.List.{List, [], ◌∷◌, ◌++◌}
-use mathlib.Core.Option.{Option, none, some}
+use Rattle.std.specs.Prelude.{Option, None, Some}
 use mathlib.Core.Path.{◌≡◌, refl, ◌∙◌, ap, ap₂}
 use native.Mathlib.Omega.{arith}
 use lib.ListN.{length}
@@ -156,12 +156,12 @@ counts_alone (Reply.Levels l) = refl
 
 -- ---- refused calls
 -- an image that is refused has the very bytes that were lent
-refused_image : (m : Machine) (pixels : List ℕ) {n : ℕ} → check_image m.state m.ram m.icons (length pixels) ≡ some n → reply (Call.Image pixels) m ≡ Reply.Painted (some n) pixels
+refused_image : (m : Machine) (pixels : List ℕ) {n : ℕ} → check_image m.state m.ram m.icons (length pixels) ≡ Some n → reply (Call.Image pixels) m ≡ Reply.Painted (Some n) pixels
 unfolding reply render_of
 refused_image m pixels h = rw h
 
 -- an update that is refused counts no pieces and leaves all
-refused_update : (m : Machine) (now : Time) {n : ℕ} → check_moment m.state now ≡ some n → (reply (Call.Update now) m ≡ Reply.Counted (some n) 0) × (after (Call.Update now) m ≡ m)
+refused_update : (m : Machine) (now : Time) {n : ℕ} → check_moment m.state now ≡ Some n → (reply (Call.Update now) m ≡ Reply.Counted (Some n) 0) × (after (Call.Update now) m ≡ m)
 unfolding reply after update
 refused_update m now h =
     (rw h, ap (λ (c : Option ℕ). with_state m (changed {A = Nt7508 × ℕ} c (counted_to m.state now, pieces m.state.scan m.state.display now) (m.state, 0)).1.0) h)
@@ -170,7 +170,7 @@ refused_update m now h =
 late : Time
 late = second (2 ^ 32)
 
-late_update : (m : Machine) → check_state m.state ≡ none → check_moment m.state late ≡ some 1
+late_update : (m : Machine) → check_state m.state ≡ None → check_moment m.state late ≡ Some 1
 unfolding late
 late_update m h = moment_alone m.state h late
 
@@ -186,16 +186,16 @@ unfolding late allowed follow follow_call allowed_one allowed_call never_fall fu
 may_refused = (refl, refl)
 
 module _ (ram icons : List ℕ) (ok : memory_ok ram icons ≡ true) where
-  short_image : reply (Call.Image lent) (start ram icons) ≡ Reply.Painted (some 8) lent
+  short_image : reply (Call.Image lent) (start ram icons) ≡ Reply.Painted (Some 8) lent
   unfolding image_ok
   short_image = refused_image (start ram icons) lent (image_alone power_on power_on_passes ram icons ok 3)
 
-  full_refusals : run (full refusals) (start ram icons) ≡ Reply.Counted (some 1) 0 ∷ Reply.Painted (some 8) lent ∷ []
+  full_refusals : run (full refusals) (start ram icons) ≡ Reply.Counted (Some 1) 0 ∷ Reply.Painted (Some 8) lent ∷ []
   unfolding run full plain
   full_refusals =
       let u = refused_update (start ram icons) late (late_update (start ram icons) power_on_passes) in
       ap₂ (λ (a b : Reply). a ∷ b ∷ []) u.0 (ap (reply (Call.Image lent)) u.1 ∙ short_image)
 
-  kept_refusals : run (kept refusals) (start ram icons) ≡ Reply.Painted (some 8) lent ∷ []
+  kept_refusals : run (kept refusals) (start ram icons) ≡ Reply.Painted (Some 8) lent ∷ []
   unfolding run kept gone left
   kept_refusals = ap (λ (a : Reply). a ∷ []) short_image

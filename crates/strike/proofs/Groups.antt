@@ -2,7 +2,7 @@
 use Prim.Native.Nat.{ℕ, suc, ◌+◌, ◌≤◌}
 use mathlib.Core.Bool.{Bool, true, false, cond, ◌&&◌, false≢true}
 use mathlib.Core.List.{List, [], ◌∷◌}
-use mathlib.Core.Option.{Option, none, some}
+use Rattle.std.specs.Prelude.{Option, None, Some}
 use mathlib.Core.Path.{◌≡◌, refl, sym, ◌∙◌, ap, ap₂}
 use native.Mathlib.Nat.{le_refl, le_trans}
 use native.Mathlib.Omega.{arith}
@@ -12,7 +12,6 @@ use Rattle.checks.proofs.Tests.{both}
 use Rattle.clock.specs.declared.time.Time.{Time}
 use Rattle.clock.specs.Time.{raw, in_range}
 use Rattle.scan.specs.Check.{memory_ok}
-use Rattle.controller.specs.declared.event.Event.{Event}
 use Rattle.controller.specs.Check.{group_ok, check_state, check_group}
 use Rattle.controller.specs.Bits.{Outcome, quiet, edge, or_else, and_then, edges, unpacked, shift_in}
 use Rattle.controller.proofs.Checks.{group_alone}
@@ -52,7 +51,7 @@ accepted_parts ok now count bits h =
 
 record Refused (r : Option ℕ) : Type 0 where
   number : ℕ
-  is : r ≡ some number
+  is : r ≡ Some number
 
 refused_number : (ok : Bool) (now : Time) (count bits : ℕ) → accepted ok now count bits ≡ false → Refused (argued ok now count bits)
 unfolding accepted
@@ -64,30 +63,30 @@ refused_number ok now count bits h = go ok (in_range now) (group_ok bits count) 
     go true true false h = record { number = 7; is = refl }
     go true true true h = absurd (false≢true (sym h))
 
-module _ (now : Time) (count bits : ℕ) (m : Machine) (good : check_state m.state ≡ none) where
+module _ (now : Time) (count bits : ℕ) (m : Machine) (good : check_state m.state ≡ None) where
   -- it is taken
   module _ (mem : memory_ok m.ram m.icons ≡ true) (i : in_range now ≡ true) (g : group_ok bits count ≡ true) where
-    passes : check_group m.state bits count now m.ram m.icons ≡ none
+    passes : check_group m.state bits count now m.ram m.icons ≡ None
     passes = group_alone m.state good m.ram m.icons mem bits count now ∙ simp (i, g)
 
     after_taken : after (Call.Bits now count bits) m ≡ moves (unpacked count bits) now m
     unfolding after shift_in
     after_taken = simp passes (edges_moves (unpacked count bits) now (quiet m.state m.ram m.icons))
 
-    reply_taken : reply (Call.Bits now count bits) m ≡ Reply.Told none (tells (unpacked count bits) now m)
+    reply_taken : reply (Call.Bits now count bits) m ≡ Reply.Told None (tells (unpacked count bits) now m)
     unfolding reply shift_in or_else
-    reply_taken = simp passes (ap (Reply.Told none) (edges_tells (unpacked count bits) now (quiet m.state m.ram m.icons)))
+    reply_taken = simp passes (ap (Reply.Told None) (edges_tells (unpacked count bits) now (quiet m.state m.ram m.icons)))
 
   -- it is refused
-  module _ (n : ℕ) {ok : Bool} (mem : memory_ok m.ram m.icons ≡ ok) (e : argued ok now count bits ≡ some n) where
-    refuses : check_group m.state bits count now m.ram m.icons ≡ some n
+  module _ (n : ℕ) {ok : Bool} (mem : memory_ok m.ram m.icons ≡ ok) (e : argued ok now count bits ≡ Some n) where
+    refuses : check_group m.state bits count now m.ram m.icons ≡ Some n
     refuses = group_alone m.state good m.ram m.icons mem bits count now ∙ e
 
     after_refused : after (Call.Bits now count bits) m ≡ m
     unfolding after shift_in
     after_refused = simp refuses
 
-    reply_refused : reply (Call.Bits now count bits) m ≡ Reply.Told (some n) Event.None
+    reply_refused : reply (Call.Bits now count bits) m ≡ Reply.Told (Some n) None
     unfolding reply shift_in
     reply_refused = simp refuses
 
@@ -165,14 +164,14 @@ module _ (now : Time) (count bits : ℕ) (marks : List Bool) where
     left_is = rw g
 
 -- what is kept of a group, as a call
-module _ (now : Time) (bs : List Bool) (few : length bs ≤ 8) (n : Machine) (good : check_state n.state ≡ none) (mem : memory_ok n.ram n.icons ≡ true) (i : in_range now ≡ true) where
+module _ (now : Time) (bs : List Bool) (few : length bs ≤ 8) (n : Machine) (good : check_state n.state ≡ None) (mem : memory_ok n.ram n.icons ≡ true) (i : in_range now ≡ true) where
   after_kept : after (group_call now bs) n ≡ moves bs now n
   unfolding group_call
   after_kept = after_taken now (length bs) (packed bs) n good mem i (packed_ok bs few) ∙ ap (λ (cs : List Bool). moves cs now n) (unpacked_packed bs)
 
-  reply_kept : reply (group_call now bs) n ≡ Reply.Told none (tells bs now n)
+  reply_kept : reply (group_call now bs) n ≡ Reply.Told None (tells bs now n)
   unfolding group_call
-  reply_kept = reply_taken now (length bs) (packed bs) n good mem i (packed_ok bs few) ∙ ap (λ (cs : List Bool). Reply.Told none (tells cs now n)) (unpacked_packed bs)
+  reply_kept = reply_taken now (length bs) (packed bs) n good mem i (packed_ok bs few) ∙ ap (λ (cs : List Bool). Reply.Told None (tells cs now n)) (unpacked_packed bs)
 
 -- ---- a group in both runs
 pub record Next (ok : Bool) (last : ℕ) (l : Line) (m n : Machine) : Type 0 where
@@ -180,10 +179,10 @@ pub record Next (ok : Bool) (last : ℕ) (l : Line) (m n : Machine) : Type 0 whe
   pub runs : Runs ok at l m n
   pub early : raw at ≤ last
 
-pub full_good : {ok : Bool} {at : Time} {l : Line} {m n : Machine} → Runs ok at l m n → check_state m.state ≡ none
+pub full_good : {ok : Bool} {at : Time} {l : Line} {m n : Machine} → Runs ok at l m n → check_state m.state ≡ None
 full_good w = ap (λ (m : Machine). check_state m.state) w.full_is ∙ w.full_ok
 
-pub kept_good : {ok : Bool} {at : Time} {l : Line} {m n : Machine} → Runs ok at l m n → check_state n.state ≡ none
+pub kept_good : {ok : Bool} {at : Time} {l : Line} {m n : Machine} → Runs ok at l m n → check_state n.state ≡ None
 kept_good w = ap (λ (m : Machine). check_state m.state) w.kept_is ∙ w.kept_ok
 
 pub full_memory : {ok : Bool} {at : Time} {l : Line} {m n : Machine} → Runs ok at l m n → memory_ok m.ram m.icons ≡ ok
@@ -243,19 +242,19 @@ module _ (ok : Bool) (last : ℕ) (l : Line) (m n : Machine) (w : Next ok last l
     same_told =
         ap (λ (c : Call). reply c n) (left_is now count bits marks g_true)
         ∙ reply_kept now (kept_bits g) (kept_few now count bits marks g_true) n (kept_good at_now) (kept_memory at_now) i_true
-        ∙ ap (Reply.Told none) (told now g l m n at_now allowed_it few)
+        ∙ ap (Reply.Told None) (told now g l m n at_now allowed_it few)
         ∙ go (ends_struck l g)
         ∙ ap (λ (r : Reply). cond (ends_struck l g) (eventless r) r) (sym full_told)
       where
         few : length l.bits + length g ≤ 15
         few = let a = few_bits at_now.c l.bits at_now.x at_now.full_ok in omega (arith, few_of now count bits marks g_true)
 
-        full_told : reply call m ≡ Reply.Told none (tells (all_bits g) now m)
+        full_told : reply call m ≡ Reply.Told None (tells (all_bits g) now m)
         full_told =
             reply_taken now count bits m (full_good at_now) (full_memory at_now) i_true g_true
-            ∙ ap (λ (bs : List Bool). Reply.Told none (tells bs now m)) (sym (all_of now count bits marks g_true))
+            ∙ ap (λ (bs : List Bool). Reply.Told None (tells bs now m)) (sym (all_of now count bits marks g_true))
 
-        go : (e : Bool) → Reply.Told none (cond e Event.None (tells (all_bits g) now m)) ≡ cond e (eventless (Reply.Told none (tells (all_bits g) now m))) (Reply.Told none (tells (all_bits g) now m))
+        go : (e : Bool) → Reply.Told None (cond e None (tells (all_bits g) now m)) ≡ cond e (eventless (Reply.Told None (tells (all_bits g) now m))) (Reply.Told None (tells (all_bits g) now m))
         go true = refl
         go false = refl
 

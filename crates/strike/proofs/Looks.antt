@@ -2,7 +2,7 @@
 use Prim.Native.Nat.{ℕ, ◌≤◌}
 use mathlib.Core.Bool.{Bool, true, false}
 use mathlib.Core.List.{List}
-use mathlib.Core.Option.{Option, none}
+use Rattle.std.specs.Prelude.{Option, None}
 use mathlib.Core.Path.{◌≡◌, refl, sym, ◌∙◌, ap}
 use lib.ListN.{length}
 use Rattle.checks.specs.Checks.{row, first_of, answer, changed}
@@ -58,7 +58,7 @@ module _ {ok : Bool} {at : Time} {l : Line} {m n : Machine} (w : Runs ok at l m 
       go : (ok i : Bool) → in_range now ≡ i → changed (first_of (row 2 ok) (row 1 i)) (drives kept_state now) (off, 0) ≡ changed (first_of (row 2 ok) (row 1 i)) (drives full_state now) (off, 0)
       go false i e = refl
       go true false e = refl
-      go true true e = ap (λ (d : LcdDrive × ℕ). changed none d (off, 0)) (drives_same now le e)
+      go true true e = ap (λ (d : LcdDrive × ℕ). changed None d (off, 0)) (drives_same now le e)
 
   pub drive_same : (now : Time) → raw at ≤ raw now → drive_of n.state now n.ram n.icons ≡ drive_of m.state now m.ram m.icons
   drive_same now le =

@@ -2,7 +2,7 @@
 use Prim.Native.Nat.{ℕ}
 use mathlib.Core.Bool.{Bool, true, false}
 use mathlib.Core.List.{List, [], ◌∷◌}
-use mathlib.Core.Option.{Option, none, some}
+use Rattle.std.specs.Prelude.{Option, None, Some}
 use mathlib.Core.Path.{◌≡◌, refl, ◌∙◌, ap}
 use lib.ListN.{length}
 use Rattle.checks.specs.Checks.{row, first_of, answer, changed}
@@ -25,44 +25,44 @@ use Rattle.controller.proofs.Supplies.{select_valid, line_valid, temperature_val
 use Rattle.strike.specs.Calls.{Call, Reply, Machine, start, reply, after, run}
 use Rattle.strike.specs.Strike.{for_state, refusal, none_for_state}
 
-module _ (m : Machine) (h : check_state m.state ≡ none) where
+module _ (m : Machine) (h : check_state m.state ≡ None) where
   -- a call that passes its check leaves what the law says, one that is refused the state given
-  either_way : (check : Option ℕ) (new : Nt7508) → (check ≡ none → check_state new ≡ none) → check_state (changed check new m.state).1 ≡ none
+  either_way : (check : Option ℕ) (new : Nt7508) → (check ≡ None → check_state new ≡ None) → check_state (changed check new m.state).1 ≡ None
   either_way check new f = go check refl
     where
-      go : (k : Option ℕ) → check ≡ k → check_state (changed k new m.state).1 ≡ none
-      go none e = f e
-      go (some n) e = h
+      go : (k : Option ℕ) → check ≡ k → check_state (changed k new m.state).1 ≡ None
+      go None e = f e
+      go (Some n) e = h
 
-  counted : (now : Time) → check_moment m.state now ≡ none → check_state (counted_to m.state now) ≡ none
+  counted : (now : Time) → check_moment m.state now ≡ None → check_state (counted_to m.state now) ≡ None
   unfolding counted_to
   counted now k =
       let v = valid m.state h in
       valid_check (with_scan m.state (count_to m.state.scan m.state.display now))
       (with_scan_valid m.state v (count_to m.state.scan m.state.display now) (counted_passes m.state.scan m.state.display now (timed m.state now k).in_range_lem v.display v.scan))
 
-  group : (now : Time) (count bits : ℕ) → check_state (after (Call.Bits now count bits) m).state ≡ none
+  group : (now : Time) (count bits : ℕ) → check_state (after (Call.Bits now count bits) m).state ≡ None
   unfolding after shift_in
   group now count bits = go (check_group m.state bits count now m.ram m.icons) refl
     where
       o : Outcome
       o = quiet m.state m.ram m.icons
 
-      go : (k : Option ℕ) → check_group m.state bits count now m.ram m.icons ≡ k → check_state (changed k (edges (unpacked count bits) now o) o).1.state ≡ none
-      go (some n) e = h
-      go none e =
+      go : (k : Option ℕ) → check_group m.state bits count now m.ram m.icons ≡ k → check_state (changed k (edges (unpacked count bits) now o) o).1.state ≡ None
+      go (Some n) e = h
+      go None e =
           let g = grouped m.state bits count now m.ram m.icons e in
           (called (edges (unpacked count bits) now o).state now (edges (unpacked count bits) now o).ram (edges (unpacked count bits) now o).icons (edges_valid (unpacked count bits) now o g.lent)).state
 
-  update_left : (now : Time) → check_state (after (Call.Update now) m).state ≡ none
+  update_left : (now : Time) → check_state (after (Call.Update now) m).state ≡ None
   unfolding after update
   update_left now = go (check_moment m.state now) refl
     where
-      go : (k : Option ℕ) → check_moment m.state now ≡ k → check_state (changed {A = Nt7508 × ℕ} k (counted_to m.state now, pieces m.state.scan m.state.display now) (m.state, 0)).1.0 ≡ none
-      go none e = counted now e
-      go (some n) e = h
+      go : (k : Option ℕ) → check_moment m.state now ≡ k → check_state (changed {A = Nt7508 × ℕ} k (counted_to m.state now, pieces m.state.scan m.state.display now) (m.state, 0)).1.0 ≡ None
+      go None e = counted now e
+      go (Some n) e = h
 
-  pub after_passes : (c : Call) → check_state (after c m).state ≡ none
+  pub after_passes : (c : Call) → check_state (after c m).state ≡ None
   unfolding after command_data select set_supply set_temperature at_deadline
   after_passes (Call.Bits now count bits) = group now count bits
   after_passes (Call.Data on) = either_way (check_state m.state) (with_serial m.state (with_data m.state.serial on)) (λ k. valid_check _ (line_valid m.state on (valid m.state h)))
@@ -118,7 +118,7 @@ module _ (m : Machine) (h : check_state m.state ≡ none) where
   not_for_state Call.Voltages = ap (λ (k : Option ℕ). for_state (refusal (Reply.Levels (answer k (levels_of m.state))))) h
 
 -- a list on a state that passes
-never_from : (cs : List Call) (m : Machine) → check_state m.state ≡ none → none_for_state (run cs m) ≡ true
+never_from : (cs : List Call) (m : Machine) → check_state m.state ≡ None → none_for_state (run cs m) ≡ true
 unfolding run none_for_state
 never_from [] m h = refl
 never_from (c ∷ cs) m h = rw (not_for_state m h c) (never_from cs (after c m) (after_passes m h c))

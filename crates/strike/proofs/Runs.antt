@@ -2,7 +2,7 @@
 use Prim.Native.Nat.{ℕ, suc, ◌≤◌, ◌<◌}
 use mathlib.Core.Bool.{Bool, true, false, cond, not, ◌&&◌, ◌||◌, false≢true}
 use mathlib.Core.List.{List, [], ◌∷◌}
-use mathlib.Core.Option.{none}
+use Rattle.std.specs.Prelude.{Option, None, Some}
 use mathlib.Core.Path.{◌≡◌, refl, sym, ◌∙◌, ap}
 use native.Mathlib.Omega.{arith}
 use lib.Dec.{eqb}
@@ -15,7 +15,6 @@ use Rattle.scan.specs.declared.state.Scan.{Scan}
 use Rattle.scan.specs.Check.{memory_ok}
 use Rattle.scan.proofs.Agree.{Agree, agree_later}
 use Rattle.controller.specs.declared.state.Nt7508.{Nt7508}
-use Rattle.controller.specs.declared.state.Pending.{Pending}
 use Rattle.controller.specs.declared.event.Stepped.{Stepped}
 use Rattle.controller.specs.State.{with_serial}
 use Rattle.controller.specs.Check.{awaits, check_state}
@@ -50,8 +49,8 @@ pub record Runs (ok : Bool) (at : Time) (l : Line) (m n : Machine) : Type 0 wher
   pub alike : Alike at l c x y ram icons
   pub full_is : m ≡ machine (state_of c l.bits x) ram icons
   pub kept_is : n ≡ machine (state_of c (kept_under l) y) ram icons
-  pub full_ok : check_state (state_of c l.bits x) ≡ none
-  pub kept_ok : check_state (state_of c (kept_under l) y) ≡ none
+  pub full_ok : check_state (state_of c l.bits x) ≡ None
+  pub kept_ok : check_state (state_of c (kept_under l) y) ≡ None
   pub memory : memory_ok ram icons ≡ ok
   pub in_range_lem : in_range at ≡ true
 
@@ -109,13 +108,13 @@ module _ (l : Line) (v : ℕ) (may : may_strike l v ≡ true) where
       go false true true hd hw he = absurd (false≢true (simp (hd, hw, he) at may))
       go false true false hd hw he = absurd (false≢true (simp (hd, hw, he) at may))
 
-not_awaiting : (p : Pending) → is_awaiting p ≡ false → p ≡ Pending.None
-not_awaiting Pending.None h = refl
-not_awaiting (Pending.Command c) h = absurd (false≢true (sym h))
+not_awaiting : (p : Option ℕ) → is_awaiting p ≡ false → p ≡ None
+not_awaiting None h = refl
+not_awaiting (Some c) h = absurd (false≢true (sym h))
 
 -- a byte leaves a state that passes its checks
-byte_ok : (c : Nt7508) (x : Scan) (v : ℕ) (now : Time) (ram icons : List ℕ) → v < 256 → in_range now ≡ true → memory_ok ram icons ≡ true → check_state (state_of c [] x) ≡ none
-    → check_state (byte_taken (state_of c [] x) v now ram icons).state ≡ none
+byte_ok : (c : Nt7508) (x : Scan) (v : ℕ) (now : Time) (ram icons : List ℕ) → v < 256 → in_range now ≡ true → memory_ok ram icons ≡ true → check_state (state_of c [] x) ≡ None
+    → check_state (byte_taken (state_of c [] x) v now ram icons).state ≡ None
 byte_ok c x v now ram icons h i mem ok = byte_valid (state_of c [] x) v now ram icons h (called_check (state_of c [] x) now ram icons (record { memory = mem; in_range_lem = i; state = ok }))
 
 -- E3 awaits no parameter
@@ -129,7 +128,7 @@ unfolding with_serial
 nop_idle c h = nop_acted (with_serial c (with_bits c.serial 0 0)) (not_awaiting c.serial.pending h)
 
 module _ (now : Time) (l : Line) (c : Nt7508) (x y : Scan) (ram icons : List ℕ) (a : Alike now l c x y ram icons)
-    (full_ok : check_state (state_of c l.bits x) ≡ none) (kept_ok : check_state (state_of c (kept_under l) y) ≡ none)
+    (full_ok : check_state (state_of c l.bits x) ≡ None) (kept_ok : check_state (state_of c (kept_under l) y) ≡ None)
     (mem : memory_ok ram icons ≡ true) (i : in_range now ≡ true) (b : Bool) where
   abbrev here : Machine
   here = machine (state_of c l.bits x) ram icons
@@ -224,10 +223,10 @@ module _ (now : Time) (l : Line) (c : Nt7508) (x y : Scan) (ram icons : List ℕ
     unfolding is_whole
     v_byte = value_byte (b ∷ l.bits) (let few = few_bits c l.bits x full_ok in omega arith)
 
-    none_full : check_state (state_of c [] x) ≡ none
+    none_full : check_state (state_of c [] x) ≡ None
     none_full = other_bits c l.bits x full_ok [] (omega arith)
 
-    none_kept : check_state (state_of c [] y) ≡ none
+    none_kept : check_state (state_of c [] y) ≡ None
     none_kept = other_bits c (kept_under l) y kept_ok [] (omega arith)
 
     full_byte : move b now here ≡ outcome (performed (byte_taken (state_of c [] x) v now ram icons) ram icons)

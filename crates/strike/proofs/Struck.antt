@@ -2,7 +2,7 @@
 use Prim.Native.Nat.{ℕ, ◌≤◌}
 use mathlib.Core.Bool.{Bool, true, false, cond, ◌&&◌, false≢true}
 use mathlib.Core.List.{List, [], ◌∷◌, map}
-use mathlib.Core.Option.{Option, none, some}
+use Rattle.std.specs.Prelude.{Option, None, Some}
 use mathlib.Core.Path.{◌≡◌, refl, sym, ◌∙◌, ap, ap₂}
 use native.Mathlib.Nat.{le_refl, le_trans}
 use lib.Dec.{leb}
@@ -23,7 +23,6 @@ use Rattle.controller.specs.Check.{check_state, check_moment}
 use Rattle.controller.specs.State.{power_on, with_scan, with_power, with_serial}
 use Rattle.controller.specs.Supply.{railed, deadline_met, select, command_data, set_temperature, set_supply, at_deadline}
 use Rattle.controller.specs.Update.{counted_to, update}
-use Rattle.controller.specs.Look.{end_of}
 use Rattle.controller.proofs.Checks.{moment_alone}
 use Rattle.controller.proofs.PowerOn.{power_on_passes}
 use Rattle.strike.specs.Calls.{Call, Reply, Machine, start, with_state, reply, after, run, end}
@@ -43,7 +42,7 @@ Beside ok last l m n = Next ok last l m n
 
 -- a call that is refused for its time leaves the machine
 module _ (now : Time) (m : Machine) (h : check_moment m.state now ≡ row 1 (in_range now)) (i : in_range now ≡ false) where
-  late : check_moment m.state now ≡ some 1
+  late : check_moment m.state now ≡ Some 1
   late = h ∙ ap (row 1) i
 
   supply_late : (millivolts : ℕ) → after (Call.Supply millivolts now) m ≡ m
@@ -140,19 +139,19 @@ module _ (ok : Bool) (last : ℕ) (l : Line) (m n : Machine) (w : Next ok last l
 
   -- ---- what both runs have
   -- the full run is as the line says: its wait, a state that passes, and the lengths of memory
-  pub full_wait : end_of m.state.power.ready ≡ l.wait
+  pub full_wait : m.state.power.ready ≡ l.wait
   unfolding state_of with_scan with_serial
-  full_wait = ap (λ (m : Machine). end_of m.state.power.ready) w.runs.full_is ∙ w.runs.alike.tied.wait
+  full_wait = ap (λ (m : Machine). m.state.power.ready) w.runs.full_is ∙ w.runs.alike.tied.wait
 
-  pub full_state : check_state m.state ≡ none
+  pub full_state : check_state m.state ≡ None
   full_state = full_good w.runs
 
   pub full_lengths : memory_ok m.ram m.icons ≡ ok
   full_lengths = full_memory w.runs
 
-  pub waits_same : end_of n.state.power.ready ≡ end_of m.state.power.ready
+  pub waits_same : n.state.power.ready ≡ m.state.power.ready
   unfolding state_of with_scan with_serial
-  waits_same = ap (λ (n : Machine). end_of n.state.power.ready) w.runs.kept_is ∙ sym (ap (λ (m : Machine). end_of m.state.power.ready) w.runs.full_is)
+  waits_same = ap (λ (n : Machine). n.state.power.ready) w.runs.kept_is ∙ sym (ap (λ (m : Machine). m.state.power.ready) w.runs.full_is)
 
   pub memory_same : (n.ram ≡ m.ram) × (n.icons ≡ m.icons)
   memory_same = (
@@ -174,7 +173,7 @@ module _ (ok : Bool) (last : ℕ) (l : Line) (m n : Machine) (w : Next ok last l
   unfolding reply at_deadline
   deadlines_same now = done (moments_same now)
 
-  eventless_compared : (e : Bool) (r : Option ℕ) (v : Event) → compared (cond e (eventless (Reply.Told r v)) (Reply.Told r v)) ≡ cond e (eventless (Reply.Told r v)) (Reply.Told r v)
+  eventless_compared : (e : Bool) (r : Option ℕ) (v : Option Event) → compared (cond e (eventless (Reply.Told r v)) (Reply.Told r v)) ≡ cond e (eventless (Reply.Told r v)) (Reply.Told r v)
   unfolding compared
   eventless_compared true r v = refl
   eventless_compared false r v = refl

@@ -2,7 +2,7 @@
 use Prim.Native.Nat.{ℕ, ◌+◌}
 use mathlib.Core.Bool.{Bool, true, false, cond, ◌||◌, beq, false≢true}
 use mathlib.Core.List.{List, []}
-use mathlib.Core.Option.{none, some}
+use Rattle.std.specs.Prelude.{None, Some}
 use mathlib.Core.Path.{◌≡◌, refl, sym, ◌∙◌, ap, subst⁻¹}
 use lib.Dec.{eqb}
 use lib.ListN.{length}
@@ -16,7 +16,6 @@ use Rattle.scan.specs.Drive.{runs}
 use Rattle.scan.proofs.Runs.{resumed_quiet, power_on_quiet, stopped_clock}
 use Rattle.scan.proofs.Agree.{agree_stopped, agree_resumed}
 use Rattle.controller.specs.declared.state.Nt7508.{Nt7508}
-use Rattle.controller.specs.declared.state.Ready.{Ready}
 use Rattle.controller.specs.State.{power_on, with_scan, with_power, with_serial}
 use Rattle.controller.specs.Check.{supplied_at, check_state}
 use Rattle.controller.specs.Supply.{selected_as, with_ready, with_rail, fallen, chilled, cold_risen, warm_risen, risen, switched, railed, set_supply}
@@ -52,7 +51,7 @@ module _ {ok : Bool} (now : Time) {l : Line} {m n : Machine} (w : Runs ok now l 
   line_ruled was on cold =
       cond was
       (chills (cond on l (falls l)) millivolts)
-      (cond on (cond cold (line.with_power line_on true true (some (time_of (raw now + micros_raw 21)))) (chills l millivolts)) (chills l millivolts))
+      (cond on (cond cold (line.with_power line_on true true (Some (time_of (raw now + micros_raw 21)))) (chills l millivolts)) (chills l millivolts))
 
   line_set : Line → Line
   line_set k = line.with_power k (supplied_at millivolts) k.cold k.wait
@@ -148,7 +147,7 @@ module _ {ok : Bool} (now : Time) {l : Line} {m n : Machine} (w : Runs ok now l 
         scan = stopped (count_to z c.display now);
         display = c.display;
         analog = c.analog;
-        power = with_rail (with_ready (with_ready c.power c.power.cold Ready.Now) (c.power.cold || eqb millivolts 0) Ready.Now) millivolts;
+        power = with_rail (with_ready (with_ready c.power c.power.cold None) (c.power.cold || eqb millivolts 0) None) millivolts;
         address = c.address;
         serial = record { selected = false; «data» = c.serial.«data»; shift = shift; bits = count; pending = c.serial.pending };
       }
@@ -184,7 +183,7 @@ module _ {ok : Bool} (now : Time) {l : Line} {m n : Machine} (w : Runs ok now l 
   way false false cold hs ho = stays_off cold hs ho
 
   -- the call is that rule, on what the line knows
-  sets : (s : Nt7508) (ram icons : List ℕ) → check_state s ≡ none → after (Call.Supply millivolts now) (machine s ram icons) ≡ machine (railed s millivolts now) ram icons
+  sets : (s : Nt7508) (ram icons : List ℕ) → check_state s ≡ None → after (Call.Supply millivolts now) (machine s ram icons) ≡ machine (railed s millivolts now) ram icons
   unfolding after set_supply
   sets s ram icons h = ap (λ (s : Nt7508). machine s ram icons) (new_of (railed s millivolts now) s (timely now w i s h))
 

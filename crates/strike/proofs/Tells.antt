@@ -6,6 +6,7 @@ use mathlib.Core.Path.{◌≡◌, refl, sym, ◌∙◌, ap}
 use native.Mathlib.Omega.{arith}
 use lib.ListN.{length}
 use borrow.Author.Tests.{eqb-true, ne_eqb}
+use Rattle.std.specs.Prelude.{Option, None}
 use Rattle.checks.proofs.Tests.{both}
 use Rattle.clock.specs.declared.time.Time.{Time}
 use Rattle.controller.specs.declared.event.Event.{Event}
@@ -20,11 +21,11 @@ use Rattle.strike.proofs.Bits.{few_bits, edge_idle, edge_more, edge_whole}
 use Rattle.strike.proofs.Runs.{Runs, kept_under, machine, goes_on_lem, move, all_bits, one_bit}
 
 -- what an edge tells, and edges one after another
-abbrev pub say : Bool → Time → Machine → Event
+abbrev pub say : Bool → Time → Machine → Option Event
 say b now m = (edge m.state b now m.ram m.icons).event
 
-unfoldable pub tells : List Bool → Time → Machine → Event
-tells [] now m = Event.None
+unfoldable pub tells : List Bool → Time → Machine → Option Event
+tells [] now m = None
 tells (b ∷ bs) now m = or_else (say b now m) (tells bs now (move b now m))
 
 -- a bit ends a byte
@@ -36,10 +37,10 @@ module _ (now : Time) (l : Line) (m n : Machine) (w : Runs true now l m n) (b : 
   full_few = few_bits w.c l.bits w.x w.full_ok
 
   -- a bit that ends no byte tells nothing
-  silent : ends l b ≡ false → say b now m ≡ Event.None
+  silent : ends l b ≡ false → say b now m ≡ None
   silent e = ap (say b now) w.full_is ∙ go (takes l) (is_whole (b ∷ l.bits)) refl refl e
     where
-      go : (t v : Bool) → takes l ≡ t → is_whole (b ∷ l.bits) ≡ v → v && t ≡ false → say b now (machine (state_of w.c l.bits w.x) w.ram w.icons) ≡ Event.None
+      go : (t v : Bool) → takes l ≡ t → is_whole (b ∷ l.bits) ≡ v → v && t ≡ false → say b now (machine (state_of w.c l.bits w.x) w.ram w.icons) ≡ None
       go false v h q e = ap (λ (o : Outcome). o.event) (edge_idle l w.c l.bits w.x w.alike.tied b now w.ram w.icons h)
       go true false h q e = ap (λ (o : Outcome). o.event) (edge_more l w.c l.bits w.x w.alike.tied b now w.ram w.icons h full_few q)
       go true true h q e = absurd (false≢true (sym e))
@@ -55,7 +56,7 @@ module _ (now : Time) (l : Line) (m n : Machine) (w : Runs true now l m n) (b : 
       kept : List Bool → Machine
       kept bits = machine (state_of w.c bits w.y) w.ram w.icons
 
-      event_of : Outcome → Event
+      event_of : Outcome → Option Event
       event_of o = o.event
 
       go : (t v : Bool) → takes l ≡ t → is_whole (b ∷ l.bits) ≡ v → cond t (goes_on l.bits l.struck false && (not (false && v) || may_strike l (value (b ∷ l.bits)))) true ≡ true
@@ -99,8 +100,8 @@ module _ (now : Time) where
   -- a group that is too short to end a byte
   record Quiet (l : Line) (bs : List Bit) (m n : Machine) : Type 0 where
     line : ends_struck l bs ≡ false
-    full : tells (all_bits bs) now m ≡ Event.None
-    kept : tells (kept_bits bs) now n ≡ Event.None
+    full : tells (all_bits bs) now m ≡ None
+    kept : tells (kept_bits bs) now n ≡ None
 
   quiet : (bs : List Bit) (l : Line) (m n : Machine) → Runs true now l m n → allowed_bits l bs ≡ true → length l.bits + length bs ≤ 7 → Quiet l bs m n
   unfolding ends_struck tells all_bits kept_bits allowed_bits or_else
@@ -112,15 +113,15 @@ module _ (now : Time) where
       no_end : ends l b ≡ false
       no_end = not_yet l b false (omega arith)
 
-      none : say b now m ≡ Event.None
-      none = silent now l m n w b no_end
+      unsaid : say b now m ≡ None
+      unsaid = silent now l m n w b no_end
 
       go : (k : Bool) → allowed_bit l (bit b k) ≡ true → Quiet (follow_bit l (bit b k)) bs (move b now m) (cond k n (move b now n)) → Quiet l (bit b k ∷ bs) m n
-      go true ok q = record { line = rw no_end q.line; full = rw none q.full; kept = q.kept }
-      go false ok q = record { line = rw no_end q.line; full = rw none q.full; kept = rw (same_event now l m n w b ok, none) q.kept }
+      go true ok q = record { line = rw no_end q.line; full = rw unsaid q.full; kept = q.kept }
+      go false ok q = record { line = rw no_end q.line; full = rw unsaid q.full; kept = rw (same_event now l m n w b ok, unsaid) q.kept }
 
   pub told : (bs : List Bit) (l : Line) (m n : Machine) → Runs true now l m n → allowed_bits l bs ≡ true → length l.bits + length bs ≤ 15
-      → tells (kept_bits bs) now n ≡ cond (ends_struck l bs) Event.None (tells (all_bits bs) now m)
+      → tells (kept_bits bs) now n ≡ cond (ends_struck l bs) None (tells (all_bits bs) now m)
   unfolding ends_struck tells all_bits kept_bits allowed_bits or_else
   told [] l m n w h few = refl
   told (bit b k ∷ bs) l m n w h few =
@@ -132,8 +133,8 @@ module _ (now : Time) where
     where
       go : (k : Bool) (e : Bool) → ends l b ≡ e → allowed_bit l (bit b k) ≡ true
           → (ends l b ≡ true → Quiet (follow_bit l (bit b k)) bs (move b now m) (cond k n (move b now n)))
-          → tells (kept_bits bs) now (cond k n (move b now n)) ≡ cond (ends_struck (follow_bit l (bit b k)) bs) Event.None (tells (all_bits bs) now (move b now m))
-          → tells (kept_bits (bit b k ∷ bs)) now n ≡ cond ((e && k) || ends_struck (follow_bit l (bit b k)) bs) Event.None (or_else (say b now m) (tells (all_bits bs) now (move b now m)))
+          → tells (kept_bits bs) now (cond k n (move b now n)) ≡ cond (ends_struck (follow_bit l (bit b k)) bs) None (tells (all_bits bs) now (move b now m))
+          → tells (kept_bits (bit b k ∷ bs)) now n ≡ cond ((e && k) || ends_struck (follow_bit l (bit b k)) bs) None (or_else (say b now m) (tells (all_bits bs) now (move b now m)))
       go true true e ok q next = (q e).kept
       go false true e ok q next = let z = q e in rw (z.line, z.full, z.kept, same_event now l m n w b ok)
       go true false e ok q next = rw (silent now l m n w b e) next

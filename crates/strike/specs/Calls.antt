@@ -1,7 +1,6 @@
 -- Document 01, 'The tightness of contracts', e: the calls that a list is made of, what each answers and what it leaves. Both
 -- are taken from the definitions that the controller's contracts cite.
-use Rattle.std.specs.Prelude.{ℕ, Bool, List, [], ◌∷◌, ◌⊎◌, ℤ}
-use Rattle.std.proofs.Math.Option.{Option}
+use Rattle.std.specs.Prelude.{ℕ, Bool, List, [], ◌∷◌, ◌⊎◌, ℤ, Option}
 use Rattle.clock.specs.declared.time.Time.{Time}
 use Rattle.voltage.specs.declared.LcdVoltages.{LcdVoltages}
 use Rattle.scan.specs.declared.drive.LcdDrive.{LcdDrive}
@@ -38,7 +37,7 @@ start ram icons = record { state = power_on; ram = ram; icons = icons }
 
 -- the reply of a call: the number of its refusal, if any, and the value that it gives
 pub data Reply : Type 0 where
-  Told : Option ℕ → Event → Reply
+  Told : Option ℕ → Option Event → Reply
   Done : Option ℕ → Reply
   Counted : Option ℕ → (pieces : ℕ) → Reply
   Driven : Option ℕ → LcdDrive → (frame : ℕ) → Reply

@@ -1,9 +1,8 @@
 -- Document 01, 'The tightness of contracts', e: selected, supplied, ready and awaiting follow by the rules from the calls before,
 -- not from the program's record. `Line` is what a reader of the calls knows; it holds no part of the controller's state. A call
 -- that is refused leaves it. By it, what may be struck.
-use Rattle.std.specs.Prelude.{ℕ, ◌+◌, ◌*◌, Bool, true, false, cond, not, ◌&&◌, ◌||◌, List, [], ◌∷◌, eqb, length}
+use Rattle.std.specs.Prelude.{ℕ, ◌+◌, ◌*◌, Bool, true, false, cond, not, ◌&&◌, ◌||◌, List, [], ◌∷◌, eqb, length, Option, None, Some}
 use Rattle.std.specs.Bool.{beq}
-use Rattle.std.proofs.Math.Option.{Option, none, some}
 use Rattle.clock.specs.declared.time.Time.{Time}
 use Rattle.clock.specs.Time.{raw, time_of, micros_raw, in_range}
 use Rattle.controller.specs.Check.{awaits, supplied_at, group_ok}
@@ -22,12 +21,12 @@ pub record Line : Type 0 where
 
 -- at power-on
 abbrev pub line_on : Line
-line_on = record { selected = false; is_data = false; supplied = true; cold = false; wait = none; awaiting = false; bits = []; struck = false }
+line_on = record { selected = false; is_data = false; supplied = true; cold = false; wait = None; awaiting = false; bits = []; struck = false }
 
 -- ---- bits
 abbrev pub ready : Option Time → Bool
-ready none = true
-ready (some t) = false
+ready None = true
+ready (Some t) = false
 
 -- bits are taken only while selected, supplied and ready
 unfoldable pub takes : Line → Bool
@@ -126,7 +125,7 @@ with_power l supplied cold wait = record {
 
 -- a fall deselects and drops the wait
 unfoldable pub falls : Line → Line
-falls l = let d = follow_select l false in with_power d d.supplied d.cold none
+falls l = let d = follow_select l false in with_power d d.supplied d.cold None
 
 -- rail 0 marks cold
 unfoldable pub chills : Line → (millivolts : ℕ) → Line
@@ -134,7 +133,7 @@ chills l millivolts = with_power l l.supplied (l.cold || eqb millivolts 0) l.wai
 
 -- a cold rise returns to power-on, stays cold and waits 21 µs; a warm rise keeps all
 unfoldable pub rises : Line → Time → Line
-rises l now = cond l.cold (with_power line_on true true (some (time_of (raw now + micros_raw 21)))) l
+rises l now = cond l.cold (with_power line_on true true (Some (time_of (raw now + micros_raw 21)))) l
 
 unfoldable pub follow_supply : Line → (millivolts : ℕ) → Time → Line
 follow_supply l millivolts now =
@@ -146,11 +145,11 @@ follow_supply l millivolts now =
 
 -- only a deadline call at the exact time ends the wait, and only then is cold cleared
 unfoldable pub is_at : Option Time → Time → Bool
-is_at none now = false
-is_at (some t) now = eqb (raw t) (raw now)
+is_at None now = false
+is_at (Some t) now = eqb (raw t) (raw now)
 
 unfoldable pub follow_deadline : Line → Time → Line
-follow_deadline l now = cond (is_at l.wait now) (with_power l l.supplied false none) l
+follow_deadline l now = cond (is_at l.wait now) (with_power l l.supplied false None) l
 
 unfoldable pub follow_call : (memory_ok : Bool) → Line → Call → Line
 follow_call memory_ok l (Call.Bits now count bits) = cond (accepted memory_ok now count bits) (follow_bits l (group_of count bits [])) l

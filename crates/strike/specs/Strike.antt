@@ -5,13 +5,11 @@
 --
 -- The statement stands on: Calls.antt (the calls; what each answers and leaves, by the controller's definitions), Marks.antt
 -- (the full and the kept list), Line.antt (what may be struck, followed from the calls alone). The proof is proofs/Struck.antt.
-use Rattle.std.specs.Prelude.{ℕ, Bool, true, false, cond, not, ◌&&◌, ◌||◌, List, [], ◌∷◌, ◌++◌, map, ◌≡◌, leb}
+use Rattle.std.specs.Prelude.{ℕ, Bool, true, false, cond, not, ◌&&◌, ◌||◌, List, [], ◌∷◌, ◌++◌, map, ◌≡◌, leb, Option, None, Some}
 use Rattle.std.proofs.Common.{inl, inr}
-use Rattle.std.proofs.Math.Option.{Option, none, some}
 use Rattle.clock.specs.Time.{raw}
 use Rattle.scan.specs.Check.{memory_ok}
 use Rattle.scan.specs.Drive.{common_microvolts, segment_microvolts}
-use Rattle.controller.specs.declared.event.Event.{Event}
 use Rattle.strike.specs.Calls.{Call, Reply, start, run, end}
 use Rattle.strike.specs.Marks.{Marked, Bit, bit, group_of, full, kept, gone}
 use Rattle.strike.specs.Line.{Line, line_on, takes, is_whole, follow_bit, follow, accepted, allowed}
@@ -32,7 +30,7 @@ ends_struck l [] = false
 ends_struck l (bit b k ∷ bs) = (is_whole (b ∷ l.bits) && takes l && k) || ends_struck (follow_bit l (bit b k)) bs
 
 abbrev pub eventless : Reply → Reply
-eventless (Reply.Told r e) = Reply.Told r Event.None
+eventless (Reply.Told r e) = Reply.Told r None
 eventless (Reply.Done r) = Reply.Done r
 eventless (Reply.Counted r pieces) = Reply.Counted r pieces
 eventless (Reply.Driven r d frame) = Reply.Driven r d frame
@@ -70,8 +68,8 @@ never_fall last (c ∷ cs) = leb last (time_of c last) && never_fall (time_of c 
 
 -- no call is refused for its state: numbers 3 to 5
 abbrev pub for_state : Option ℕ → Bool
-for_state none = false
-for_state (some n) = leb 3 n && leb n 5
+for_state None = false
+for_state (Some n) = leb 3 n && leb n 5
 
 abbrev pub refusal : Reply → Option ℕ
 refusal (Reply.Told r e) = r
@@ -79,8 +77,8 @@ refusal (Reply.Done r) = r
 refusal (Reply.Counted r pieces) = r
 refusal (Reply.Driven r d frame) = r
 refusal (Reply.Painted r pixels) = r
-refusal (Reply.Levels (inl n)) = some n
-refusal (Reply.Levels (inr v)) = none
+refusal (Reply.Levels (inl n)) = Some n
+refusal (Reply.Levels (inr v)) = None
 
 unfoldable pub none_for_state : List Reply → Bool
 none_for_state [] = true
@@ -108,12 +106,12 @@ SameMemory ram icons ms =
 
 -- electrode voltages are read from the drives: what a reply says of the common and of the segment of a number
 unfoldable pub electrodes : (electrode : ℕ) → Reply → Option (Option ℕ × Option ℕ)
-electrodes n (Reply.Driven r d frame) = some (common_microvolts d n, segment_microvolts d n)
-electrodes n (Reply.Told r e) = none
-electrodes n (Reply.Done r) = none
-electrodes n (Reply.Counted r pieces) = none
-electrodes n (Reply.Painted r pixels) = none
-electrodes n (Reply.Levels l) = none
+electrodes n (Reply.Driven r d frame) = Some (common_microvolts d n, segment_microvolts d n)
+electrodes n (Reply.Told r e) = None
+electrodes n (Reply.Done r) = None
+electrodes n (Reply.Counted r pieces) = None
+electrodes n (Reply.Painted r pixels) = None
+electrodes n (Reply.Levels l) = None
 
 abbrev pub SameElectrodes : (ram icons : List ℕ) → List Marked → Type 0
 SameElectrodes ram icons ms =

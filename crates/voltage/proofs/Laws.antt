@@ -3,7 +3,7 @@
 use Prim.Native.Nat.{ℕ, suc, ◌+◌, ◌-◌, ◌*◌, ◌/◌, ◌<◌, ◌≤◌}
 use mathlib.Core.Bool.{Bool, true, false, cond, ◌&&◌, and-false}
 use mathlib.Core.Logic.{◌⊎◌, inl, inr, ◌↔◌}
-use mathlib.Core.Path.{◌≡◌, refl, ◌∙◌, ap}
+use mathlib.Core.Path.{◌≡◌, refl, sym, ◌∙◌, ap}
 use native.Mathlib.Nat.{le_trans, mul-le-mul, mul-le-mul_left, le-div_iff_mul-le, div-mul-le_self, mul-add-div_right, div-eq_of_lt}
 use native.Mathlib.Omega.{arith}
 use lib.Dec.{leb}
@@ -12,27 +12,25 @@ use borrow.Author.Tests.{leb-true, leb-false, le-leb, lt-leb}
 use Rattle.checks.proofs.Tests.{fails}
 use Rattle.voltage.specs.declared.Settings.{Settings}
 use Rattle.voltage.specs.declared.Supply.{Supply}
-use Rattle.voltage.specs.declared.Level.{Level}
-use Rattle.voltage.specs.declared.Level.TheVariants.{Absent}
 use Rattle.voltage.specs.declared.LcdVoltages.{LcdVoltages}
 use Rattle.voltage.specs.declared.check.Refusal.{Refusal}
-use Rattle.voltage.specs.declared.Answer.{Answer}
-use Rattle.voltage.specs.declared.Answer.TheVariants.{Voltages, Refused}
+use Rattle.std.specs.Prelude.{Option, None, Result, Ok, Err}
+use Rattle.std.proofs.lemmas.Option.{none-some}
 use Rattle.voltage.specs.Check.{has_bit, valid_settings}
 use Rattle.voltage.specs.Voltage.{at_most, level_at, above, rounded, gain, ev, temperature_factor, trim, target_at, share, v0_present, levels, target, pump, voltages}
 use Rattle.voltage.specs.Answers.{microvolts, answered, answer_of}
 use Rattle.voltage.proofs.Numbers.{gain_is, diff_cut, at_most_limit}
 
 -- ---- what an answer to `voltages` is
-pub answer_valid : (s : Settings) (x : Supply) (r : Answer) → answered r ≡ answer_of s x → valid_settings s ≡ true → r ≡ Voltages (voltages s x)
+pub answer_valid : (s : Settings) (x : Supply) (r : Result LcdVoltages Refusal) → answered r ≡ answer_of s x → valid_settings s ≡ true → r ≡ Ok (voltages s x)
 unfolding answer_of
-answer_valid s x (Voltages v) e valid = let q = rw valid at e in cc
-answer_valid s x (Refused why) e valid = let q = rw valid at e in cc
+answer_valid s x (Ok v) e valid = let q = rw valid at e in cc
+answer_valid s x (Err why) e valid = let q = rw valid at e in cc
 
-pub answer_invalid : (s : Settings) (x : Supply) (r : Answer) → answered r ≡ answer_of s x → valid_settings s ≡ false → r ≡ Refused Refusal.Settings
+pub answer_invalid : (s : Settings) (x : Supply) (r : Result LcdVoltages Refusal) → answered r ≡ answer_of s x → valid_settings s ≡ false → r ≡ Err Refusal.Settings
 unfolding answer_of
-answer_invalid s x (Voltages v) e invalid = let q = rw invalid at e in cc
-answer_invalid s x (Refused Refusal.Settings) e invalid = refl
+answer_invalid s x (Ok v) e invalid = let q = rw invalid at e in cc
+answer_invalid s x (Err Refusal.Settings) e invalid = refl
 
 -- ---- shares of the target
 module _ (v n : ℕ) (some : 0 < n) where
@@ -50,16 +48,16 @@ module _ (v n : ℕ) (some : 0 < n) where
   share_within h = omega (arith, share_rises h, share_whole)
 
 -- ---- V0 is absent exactly if one of its conditions fails
-absent_not : (present : Bool) (v : ℕ) → level_at present v ≡ Absent → present ≡ false
-absent_not true v e = absurd (let z : ◌≡◌ {A = ℕ} 0 1 = cc in omega arith)
+absent_not : (present : Bool) (v : ℕ) → level_at present v ≡ None → present ≡ false
+absent_not true v e = absurd (none-some v (sym e))
 absent_not false v e = refl
 
 -- what V0 can lack: its bit of the power control, a target from 4,000,000 to 15,000,000, a pump that is high enough
-abbrev pub V0Lacks : ℕ → ℕ → Level → Type 0
+abbrev pub V0Lacks : ℕ → ℕ → Option ℕ → Type 0
 V0Lacks power_control v from =
     (has_bit power_control 1 ≡ false) ⊎ ((v < 4000000) ⊎ ((15000000 < v) ⊎ (above from (v + 3000000) ≡ false)))
 
-lacks : (power_control v : ℕ) (from : Level) → v0_present power_control v from ≡ false → V0Lacks power_control v from
+lacks : (power_control v : ℕ) (from : Option ℕ) → v0_present power_control v from ≡ false → V0Lacks power_control v from
 unfolding v0_present
 lacks power_control v from e = last (fails _ _ e)
   where
@@ -75,14 +73,14 @@ lacks power_control v from e = last (fails _ _ e)
     last (inl h) = middle (fails _ _ h)
     last (inr h) = inr (inr (inr h))
 
-lacking : (power_control v : ℕ) (from : Level) → V0Lacks power_control v from → v0_present power_control v from ≡ false
+lacking : (power_control v : ℕ) (from : Option ℕ) → V0Lacks power_control v from → v0_present power_control v from ≡ false
 unfolding v0_present
 lacking power_control v from (inl h) = rw h
 lacking power_control v from (inr (inl h)) = rw (lt-leb 4000000 v h) (simp and-false)
 lacking power_control v from (inr (inr (inl h))) = rw (lt-leb v 15000000 h) (simp and-false)
 lacking power_control v from (inr (inr (inr h))) = rw h (simp and-false)
 
-pub v0_absent : (s : Settings) (x : Supply) → ((voltages s x).v0 ≡ Absent) ↔ V0Lacks s.power_control (target s x.temperature_millicelsius) (pump s x)
+pub v0_absent : (s : Settings) (x : Supply) → ((voltages s x).v0 ≡ None) ↔ V0Lacks s.power_control (target s x.temperature_millicelsius) (pump s x)
 unfolding voltages levels
 v0_absent s x =
     let v = target s x.temperature_millicelsius in (

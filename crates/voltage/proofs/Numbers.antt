@@ -1,5 +1,5 @@
 -- Arithmetic that the proofs of several functions share.
-use Prim.Native.Nat.{ℕ, zero, suc, ◌+◌, ◌-◌, ◌*◌, ◌/◌, ◌%◌, ◌^◌, ◌<◌, ◌≤◌}
+use Prim.Native.Nat.{ℕ, zero, suc, ◌+◌, ◌-◌, ◌*◌, ◌^◌, ◌<◌, ◌≤◌}
 use mathlib.Core.Bool.{Bool, true, false, cond}
 use mathlib.Core.List.{List, [], ◌∷◌}
 use mathlib.Core.Path.{◌≡◌, refl, ◌∙◌, ap}
@@ -109,9 +109,9 @@ target_is s z t g b r contrast et eg eb =
     (mul_right_comm t g (b + contrast)
     ∙ cc (et, eg, volume_is b contrast (trim s.otp_control s.contrast_trim) eb))
 
--- the target of the pair p, as the finder computes it
-abbrev pub computed : ℕ → ℕ → ℕ → ℕ
-computed factor base p = rounded (factor * gain (p / 64) * (base + p % 64))
+-- the target of a pair, as the finder computes it
+abbrev pub computed : (factor base regulator contrast : ℕ) → ℕ
+computed factor base regulator contrast = rounded (factor * gain regulator * (base + contrast))
 
-pub computed_is : (s : Settings) (z : ℤ) {t b : ℕ} → t ≡ temperature_factor s.temperature_slope z → pos b ≡ pos 147 +ℤ trim s.otp_control s.contrast_trim → (p : ℕ) → computed t b p ≡ target_at s z (p / 64) (p % 64)
-computed_is s z et eb p = target_is s z _ _ _ (p / 64) (p % 64) et refl eb
+pub computed_is : (s : Settings) (z : ℤ) {t b : ℕ} → t ≡ temperature_factor s.temperature_slope z → pos b ≡ pos 147 +ℤ trim s.otp_control s.contrast_trim → (r k : ℕ) → computed t b r k ≡ target_at s z r k
+computed_is s z et eb r k = target_is s z _ _ _ r k et refl eb

@@ -1,6 +1,5 @@
 -- Document 01, 'Where a call is turned down', number 3: the conditions of `validate` on the settings that the voltages read.
-use Rattle.std.specs.Prelude.{ℕ, ◌/◌, ◌%◌, ◌^◌, Bool, not, ◌&&◌, leb, eqb}
-use Rattle.std.proofs.Math.Option.{Option}
+use Rattle.std.specs.Prelude.{ℕ, ◌/◌, ◌%◌, ◌^◌, Bool, not, ◌&&◌, leb, eqb, Option}
 use Rattle.checks.specs.Checks.{row}
 use Rattle.voltage.specs.declared.Settings.{Settings}
 use Rattle.voltage.specs.declared.check.Refusal.{Refusal}

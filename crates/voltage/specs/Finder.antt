@@ -1,8 +1,8 @@
 -- Document 01, 'Setting finder (added)', and 'The tightness of contracts', a: the pair alone is left open.
-use Rattle.std.specs.Prelude.{ℕ, ◌<◌, Bool, true, false, ◌&&◌, ◌≡◌, leb, ℤ}
+use Rattle.std.specs.Prelude.{ℕ, ◌<◌, Bool, true, false, ◌&&◌, ◌≡◌, leb, ℤ, Option, Some, None, Result, Ok, Err}
 use Rattle.voltage.specs.declared.Settings.{Settings}
-use Rattle.voltage.specs.declared.finder.Found.{Found}
-use Rattle.voltage.specs.declared.finder.Found.TheVariants.{Setting, None, Refused}
+use Rattle.voltage.specs.declared.check.Refusal.{Refusal}
+use Rattle.voltage.specs.declared.finder.Pair.{Pair}
 use Rattle.voltage.specs.Check.{number, valid_settings}
 use Rattle.voltage.specs.Voltage.{target_at}
 
@@ -17,9 +17,9 @@ pub record PairFits (s : Settings) (temperature : ℤ) (low high : ℕ) (regulat
   pub in_band_lem : in_band low high (target_at s temperature regulator contrast) ≡ true
 
 -- the meaning of an answer: that a pair fits, or that none of the 512 does, or the refusal of the settings
-abbrev pub Says : Settings → ℤ → ℕ → ℕ → Found → Type 0
-Says s temperature low high (Setting regulator contrast) =
-    (valid_settings s ≡ true) × PairFits s temperature low high regulator contrast
-Says s temperature low high None =
+abbrev pub Says : Settings → ℤ → ℕ → ℕ → Result (Option Pair) Refusal → Type 0
+Says s temperature low high (Ok (Some pair)) =
+    (valid_settings s ≡ true) × PairFits s temperature low high pair.regulator pair.contrast
+Says s temperature low high (Ok None) =
     (valid_settings s ≡ true) × ((r c : ℕ) → PairFits s temperature low high r c → ⊥)
-Says s temperature low high (Refused why) = (valid_settings s ≡ false) × (number why ≡ 3)
+Says s temperature low high (Err why) = (valid_settings s ≡ false) × (number why ≡ 3)

@@ -1,10 +1,9 @@
 -- Document 01, 'Voltage', in its order. Temperatures are in millidegrees, supplies in millivolts, all else in microvolts.
-use Rattle.std.specs.Prelude.{ℕ, ◌+◌, ◌-◌, ◌*◌, ◌/◌, ◌%◌, Bool, true, false, cond, not, ◌&&◌, [], ◌∷◌, leb, ltb, eqb, ℤ, pos, negsuc, neg_ℤ, ◌+ℤ◌, ◌-ℤ◌, ◌*ℤ◌, get_or}
+use Rattle.std.specs.Prelude.{ℕ, ◌+◌, ◌-◌, ◌*◌, ◌/◌, ◌%◌, Bool, false, cond, not, ◌&&◌, [], ◌∷◌, leb, ltb, eqb, ℤ, Option, Some, None, pos, negsuc, neg_ℤ, ◌+ℤ◌, ◌-ℤ◌, ◌*ℤ◌, get_or}
+use Rattle.std.specs.Bool.{then_some}
 use Rattle.std.specs.Int.Signed.{le_z}
 use Rattle.voltage.specs.declared.Settings.{Settings}
 use Rattle.voltage.specs.declared.Supply.{Supply}
-use Rattle.voltage.specs.declared.Level.{Level}
-use Rattle.voltage.specs.declared.Level.TheVariants.{Absent, Microvolts}
 use Rattle.voltage.specs.declared.LcdVoltages.{LcdVoltages}
 use Rattle.voltage.specs.Check.{has_bit}
 
@@ -54,9 +53,8 @@ unfoldable pub target : Settings → ℤ → ℕ
 target s temperature = target_at s temperature s.regulator s.contrast
 
 -- a supply that is present, at these microvolts, or absent
-abbrev pub level_at : Bool → ℕ → Level
-level_at true microvolts = Microvolts microvolts
-level_at false microvolts = Absent
+abbrev pub level_at : Bool → ℕ → Option ℕ
+level_at present microvolts = then_some present microvolts
 
 -- min(8, 3 + (b and 3) + 4 if b has bit 3)
 abbrev pub multiple : ℕ → ℕ
@@ -73,16 +71,16 @@ pump_present power_control x =
     && works_at x.temperature_millicelsius && not x.power_save && not x.waiting
 
 -- the pump
-unfoldable pub pump : Settings → Supply → Level
+unfoldable pub pump : Settings → Supply → Option ℕ
 pump s x = level_at (pump_present s.power_control x) (x.supply_millivolts * 1000 * multiple s.booster)
 
 -- the level is present, and strictly above the limit
-abbrev pub above : Level → ℕ → Bool
-above Absent limit = false
-above (Microvolts v) limit = ltb limit v
+abbrev pub above : Option ℕ → ℕ → Bool
+above None limit = false
+above (Some v) limit = ltb limit v
 
 -- when V0 is present, by the power control, the target and the pump
-unfoldable pub v0_present : ℕ → ℕ → Level → Bool
+unfoldable pub v0_present : ℕ → ℕ → Option ℕ → Bool
 v0_present power_control microvolts pumped =
     has_bit power_control 1 && leb 4000000 microvolts && leb microvolts 15000000 && above pumped (microvolts + 3000000)
 
@@ -91,7 +89,7 @@ unfoldable pub share : ℕ → ℕ → ℕ → ℕ
 share microvolts n f = (microvolts * f + n / 2) / n
 
 -- V0, and with bit 0 also V1 to V4
-unfoldable pub levels : Settings → ℕ → Level → LcdVoltages
+unfoldable pub levels : Settings → ℕ → Option ℕ → LcdVoltages
 levels s microvolts pumped =
     let v0 = v0_present s.power_control microvolts pumped in
     let divided = v0 && has_bit s.power_control 0 in
@@ -112,4 +110,4 @@ voltages s x = levels s (target s x.temperature_millicelsius) (pump s x)
 
 -- `LcdVoltages::OFF`: nothing is driven
 abbrev pub off : LcdVoltages
-off = record { pump = Absent; target = 0; v0 = Absent; v1 = Absent; v2 = Absent; v3 = Absent; v4 = Absent }
+off = record { pump = None; target = 0; v0 = None; v1 = None; v2 = None; v3 = None; v4 = None }

@@ -1,14 +1,25 @@
 // The check of the settings: number 3 of document 01's table.
 ghost use Rattle.std.specs.Prelude.{◌≡◌};
-ghost use Rattle.voltage.specs.Check.{valid_booster, valid_settings};
+ghost use Rattle.voltage.specs.Check.{number as number_of, valid_booster, valid_settings};
 
 use crate::Settings;
 use crate::target::has_bit;
+use checks::Numbered;
 
 // Why a call is turned down: `number` of specs/Check.antt gives it its number.
-#[derive(Clone, Copy)]
+#[derive(Clone, Copy, Debug, PartialEq, Eq)]
 pub enum Refusal {
     Settings,
+}
+
+impl Numbered for Refusal {
+    ghost number = { number_of };
+
+    fn number(self) -> u64 {
+        match self {
+            Refusal::Settings => 3,
+        }
+    }
 }
 
 // Of the booster's bits only 0, 1 and 3 are assigned.
@@ -20,6 +31,7 @@ fn valid_booster(booster: u8) -> bool
 
 impl Settings {
     // Whether every setting is in the range that the controller's `validate` demands.
+    #[tactic(auto, unfolding(crate::specs::Check::valid_settings))]
     pub fn valid(self) -> bool
         ensures { result ≡ valid_settings self }
     {

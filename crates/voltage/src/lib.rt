@@ -15,7 +15,7 @@ mod target;
 pub use check::Refusal;
 
 // The controller's settings that the voltages read, under the names that the controller has.
-#[derive(Clone, Copy)]
+#[derive(Clone, Copy, Debug, PartialEq, Eq)]
 pub struct Settings {
     pub contrast: u8,
     pub regulator: u8,
@@ -28,7 +28,7 @@ pub struct Settings {
 }
 
 // The inputs of the voltages besides the settings. `waiting` is the wait after a cold rise of the supply.
-#[derive(Clone, Copy)]
+#[derive(Clone, Copy, Debug, PartialEq, Eq)]
 pub struct Supply {
     pub temperature_millicelsius: i32,
     pub supply_millivolts: u16,
@@ -36,37 +36,30 @@ pub struct Supply {
     pub waiting: bool,
 }
 
-// A supply that is absent (not driven within the documented conditions), or its microvolts.
-#[derive(Clone, Copy)]
-pub enum Level {
-    Absent,
-    Microvolts(u32),
-}
-
-// The pump, the target in microvolts, and V0 to V4. Five fields stand for the Rust's array of
-// five, since a struct's array of enums is not covered by the borrow checker. Levels that are read
-// one after another lie apart: in pairs they would be loaded before both are stored, which stalls.
-#[derive(Clone, Copy)]
+// The pump, the target, and V0 to V4, in microvolts; None is a supply that is absent (not driven within
+// the documented conditions). Levels that are read one after another lie apart: in pairs they would be
+// loaded before both are stored, which stalls.
+#[derive(Clone, Copy, Debug, PartialEq, Eq)]
 pub struct LcdVoltages {
-    pub pump: Level,
+    pub pump: Option<u32>,
     pub target: u32,
-    pub v0: Level,
-    pub v2: Level,
-    pub v4: Level,
-    pub v1: Level,
-    pub v3: Level,
+    pub v0: Option<u32>,
+    pub v2: Option<u32>,
+    pub v4: Option<u32>,
+    pub v1: Option<u32>,
+    pub v3: Option<u32>,
 }
 
 impl LcdVoltages {
     // Nothing is driven.
     pub const OFF: LcdVoltages = LcdVoltages {
-        pump: Level::Absent,
+        pump: None,
         target: 0,
-        v0: Level::Absent,
-        v1: Level::Absent,
-        v2: Level::Absent,
-        v3: Level::Absent,
-        v4: Level::Absent,
+        v0: None,
+        v1: None,
+        v2: None,
+        v3: None,
+        v4: None,
     };
 }
 
@@ -77,19 +70,13 @@ fn off_voltages() -> LcdVoltages
     LcdVoltages::OFF
 }
 
-// The answer to `voltages`.
-#[derive(Clone, Copy)]
-pub enum Answer {
-    Voltages(LcdVoltages),
-    Refused(Refusal),
-}
-
 // The steady supplies under these settings, or the refusal of settings out of their range.
-pub fn voltages(settings: Settings, supply: Supply) -> Answer
+#[tactic(auto, unfolding(crate::specs::Answers::answer_of))]
+pub fn voltages(settings: Settings, supply: Supply) -> Result<LcdVoltages, Refusal>
     ensures { answered result ≡ answer_of settings supply }
 {
     if !settings.valid() {
-        return Answer::Refused(Refusal::Settings);
+        return Err(Refusal::Settings);
     }
-    Answer::Voltages(levels::voltages_of(settings, supply))
+    Ok(levels::voltages_of(settings, supply))
 }

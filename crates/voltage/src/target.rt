@@ -16,19 +16,12 @@ pub(crate) fn has_bit(x: u8, k: u8) -> bool
     (x >> k) % 2 == 1
 }
 
-// A byte as a u64: a call asks for less proof than a cast in the middle of an expression.
-pub(crate) fn widened(x: u8) -> u64
-    ensures { result ≡ x }
-{
-    x as u64
-}
-
 // The temperature counted from the lowest that the type holds, so that no later step has a sign.
 fn from_lowest(temperature: i32) -> u64
     ensures offset { pos result ≡ temperature +ℤ pos 2147483648 }
     ensures small { result < 2 ^ 32 }
 {
-    ((temperature as i64) + 2_147_483_648) as u64
+    (i64::from(temperature) + 2_147_483_648) as u64
 }
 
 // 100,000,000 at 25,000 millidegrees (2,147,508,648 from the lowest), `c` less for each more, and
@@ -38,8 +31,7 @@ fn falling(above: u64, c: u64) -> u64
     ensures { result ≡ 100000000 + 2147508648 * c - above * c }
 {
     let top = 100_000_000 + 2_147_508_648 * c;
-    let fall = above * c;
-    if fall < top { top - fall } else { 0 }
+    top.saturating_sub(above * c)
 }
 
 // The temperature factor t. The coefficient goes by the slope setting.
@@ -55,6 +47,7 @@ pub(crate) fn temperature_factor(slope: u8, temperature: i32) -> u64
 }
 
 // The number to which the contrast is added: 147 and the trim.
+#[tactic(auto, unfolding(crate::specs::Voltage::trim))]
 pub(crate) fn base_of(contrast_trim: u8, otp_control: u8) -> u64
     requires { contrast_trim ≤ 15 }
     ensures exact { pos result ≡ pos 147 +ℤ trim otp_control contrast_trim }
@@ -63,7 +56,7 @@ pub(crate) fn base_of(contrast_trim: u8, otp_control: u8) -> u64
     if !has_bit(otp_control, 0) {
         return 147;
     }
-    let offset = widened(contrast_trim);
+    let offset = u64::from(contrast_trim);
     if offset < 8 {
         return 147 + offset;
     }
@@ -72,26 +65,22 @@ pub(crate) fn base_of(contrast_trim: u8, otp_control: u8) -> u64
 }
 
 // The gain, by a regulator setting that was checked.
+#[tactic(auto, unfolding(crate::specs::Voltage::gain))]
 pub(crate) fn gain_of(regulator: u8) -> u64
     requires { regulator < 8 }
     ensures exact { result ≡ gain regulator }
     ensures small { result ≤ 1080 }
 {
-    let at = regulator as usize;
-    GAIN[at] as u64
+    u64::from(GAIN[usize::from(regulator)])
 }
 
 // The microvolts of t x gain x e, to the nearest, and the largest u32 where they are more.
+#[tactic(auto, unfolding(crate::specs::Voltage::rounded))]
 pub(crate) fn microvolts_of(scaled: u64, e: u64) -> u32
     requires { (scaled < 2 ^ 49) × (e < 256) }
     ensures { result ≡ rounded (scaled * e) }
 {
-    let microvolts = (scaled * e + 750_000) / 1_500_000;
-    if microvolts <= 4_294_967_295 {
-        microvolts as u32
-    } else {
-        4_294_967_295
-    }
+    ((scaled * e + 750_000) / 1_500_000).min(4_294_967_295) as u32
 }
 
 pub(crate) fn target_of(settings: Settings, temperature: i32) -> u32
@@ -101,5 +90,5 @@ pub(crate) fn target_of(settings: Settings, temperature: i32) -> u32
     let factor = temperature_factor(settings.temperature_slope, temperature);
     let base = base_of(settings.contrast_trim, settings.otp_control);
     let scaled = factor * gain_of(settings.regulator);
-    microvolts_of(scaled, base + widened(settings.contrast))
+    microvolts_of(scaled, base + u64::from(settings.contrast))
 }

@@ -1,6 +1,5 @@
-use mathlib.Core.Bool.{not}
-use Prim.Native.Nat.{◌-◌}
-use mathlib.Core.Path.{sym, ap, ◌∙◌}
+use Prim.Native.Nat.{◌+◌, ◌-◌, ◌*◌}
+use mathlib.Core.Path.{◌≡◌, sym, ap, ◌∙◌}
 use native.Mathlib.Omega.{arith}
 use Rattle.checks.proofs.Tests.{test_false}
 use Rattle.decimal.proofs.Laws.{digit, digits_step, spelt_step, more, stops, too_large, found}
@@ -18,18 +17,28 @@ returns-then-not-is_digit c =
     c.number_of.ensures
     ∙ found a.s.now a.at _ (i - a.at) value i c.byte_at.ensures (omega (arith, c.loop-at.invariant.1.1.0, stop.0)) spelt_all c.loop-at.invariant.1.1.1 (omega (arith, c.loop-at.invariant.0))
 
-pub returns-then-digit-value : goal.returns-then-digit-value
-returns-then-digit-value c =
-    let a = c.args in
-    let digit_here = digit c.args.s.now c.loop-at.i c.byte_at-byte.result c.is_digit.result c.byte_at-byte.ensures c.is_digit.ensures (ap not c.if-not-is_digit.false) in
-    too_large a.s.now a.at (omega (arith, more _ _ _ digit_here c.loop-at.value, c.loop-at.invariant.1.0, digit_here.high))
+pub returns-in_err-checked_mul : goal.returns-in_err-checked_mul
+returns-in_err-checked_mul c =
+    let l = c.loop-at in
+    let here = digit c.args.s.now l.i _ c.byte_at-byte.ensures (sym c.is_digit.ensures ∙ c.if-not-is_digit.false) in
+    rw c.from_residual.ensures
+    (too_large c.args.s.now c.args.at (omega (arith, more _ _ _ here l.value, l.invariant.1.0, c.in_err-checked_mul.ensures)))
+
+pub returns-in_err-value : goal.returns-in_err-value
+returns-in_err-value c =
+    let l = c.loop-at in
+    let here = digit c.args.s.now l.i _ c.byte_at-byte.ensures (sym c.is_digit.ensures ∙ c.if-not-is_digit.false) in
+    rw c.from_residual-in_err-value.ensures
+    (too_large c.args.s.now c.args.at (omega (arith, more _ _ _ here l.value, l.invariant.1.0, c.in_err-value.ensures, c.in_ok-checked_mul.ensures, c.from.ensures)))
 
 pub loop-at-preserved : goal.loop-at-preserved
 loop-at-preserved c =
-    let digit_here = digit c.args.s.now c.loop-at.i c.byte_at-byte.result c.is_digit.result c.byte_at-byte.ensures c.is_digit.ensures (ap not c.if-not-is_digit.false) in (
+    let l = c.loop-at in
+    let here = digit c.args.s.now l.i _ c.byte_at-byte.ensures (sym c.is_digit.ensures ∙ c.if-not-is_digit.false) in
+    let value : c.in_ok-value.value ≡ l.value * 10 + (c.byte_at-byte.result - 48) = omega (arith, c.in_ok-value.ensures, c.in_ok-checked_mul.ensures, c.from.ensures) in (
       omega arith,
       (
-        sym (spelt_step _ _ _ digit_here c.loop-at.value) ∙ c.loop-at.invariant.1.0,
-        (omega (arith, c.loop-at.invariant.1.1.0, digits_step _ _ _ digit_here), omega (arith, digit_here.high)),
+        rw value (sym (spelt_step _ _ _ here l.value) ∙ l.invariant.1.0),
+        (omega (arith, l.invariant.1.1.0, digits_step _ _ _ here), omega (arith, c.in_ok-value.ensures)),
       ),
     )

@@ -19,25 +19,25 @@ enough n = omega (arith, length-replicate {0} {A = ℕ} n 0)
 pub slice_bounds-run-end-3 : goal.slice_bounds-run-end-3
 slice_bounds-run-end-3 c = sym (length-replicate {0} {A = ℕ} 589824 0)
 
-pub returns-in-Refused : goal.returns-in-Refused
+pub returns-in-Err : goal.returns-in-Err
 unfolding zeros
-returns-in-Refused c =
+returns-in-Err c =
     let a = c.args in
     c.put_refusal.ensures
-    ∙ ap (λ (n : ℕ). put (a.out.now, 0) (refusal_line n c.in-Refused.line)) c.number.ensures
-    ∙ ap (put (a.out.now, 0)) (drawn_refused a.text.now (number c.in-Refused.why) c.in-Refused.line (sym (end_refusal c.run-ended.result _ _ _ _ c.run-ended.ensures (enough 589824)) ∙ ap refused_at c.in-Refused.is))
+    ∙ ap (λ (n : ℕ). put (a.out.now, 0) (refusal_line n c.in-Err.stop.line)) c.number.ensures
+    ∙ ap (put (a.out.now, 0)) (drawn_refused a.text.now (number c.in-Err.stop.why) c.in-Err.stop.line (sym (end_refusal c.run-ended.result _ _ _ _ c.run-ended.ensures (enough 589824)) ∙ ap refused_at c.in-Err.is))
     ∙ put_drawn a.text.now a.out.now c.told-out
 
 pub put_picture-requires : goal.put_picture-requires
 put_picture-requires c = end_state c.run-ended.result _ _ _ _ c.run-ended.ensures (enough 589824)
 
-pub returns : goal.returns
+pub returns-in-Ok : goal.returns-in-Ok
 unfolding zeros
-returns c =
+returns-in-Ok c =
     let a = c.args in
     let e = c.run-ended.ensures in
     c.put_picture.ensures
     ∙ ap (put (a.out.now, 0))
     (ap picture_of (end_machine c.run-ended.result _ _ _ _ e (enough 589824))
-    ∙ drawn_whole a.text.now (sym (end_refusal c.run-ended.result _ _ _ _ e (enough 589824)) ∙ ap refused_at c.in_default.is))
+    ∙ drawn_whole a.text.now (sym (end_refusal c.run-ended.result _ _ _ _ e (enough 589824)) ∙ ap refused_at c.in-Ok.is))
     ∙ put_drawn a.text.now a.out.now c.told-out

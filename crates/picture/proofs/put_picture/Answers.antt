@@ -4,7 +4,7 @@ use Prim.Native.Nat.{ℕ}
 use borrow.Author.Rules.{rules}
 use Rattle.decimal.specs.Print.{put}
 use Rattle.picture.specs.Picture.{gray_of}
-use Rattle.picture.proofs.Drawing.{picture_put}
+use Rattle.picture.proofs.Drawing.{paints, picture_put}
 use Rattle.picture.proofs.put_picture.Goals as goal
 
 pub returns : goal.returns
@@ -13,3 +13,8 @@ returns c =
     c.put_grays.ensures
     ∙ ap (λ (q : List ℕ × ℕ). put q (map gray_of c.render.new.pixels)) c.put_bytes-at.ensures
     ∙ picture_put a.state c.requires a.ram.now a.icons.now _ (search rules) (search rules) (search rules) c.render.result _ (a.out.now, 0) c.render.ensures
+
+pub unwrap-requires : goal.unwrap-requires
+unwrap-requires c =
+    let a = c.args in
+    paints a.state c.requires a.ram.now a.icons.now _ (search rules) (search rules) (search rules) c.render.result _ c.render.ensures

@@ -1,5 +1,5 @@
 use native.Mathlib.Omega.{arith}
-use mir.Facts.{Fits-lt-pow}
+use borrow.Author.Rules.{rules}
 use Rattle.checks.proofs.Tests.{test_false, test_true}
 use Rattle.controller.proofs.Groups.{group_bounds, edges_idle, edges_short}
 use Rattle.controller.proofs.Whole.{not_completed}
@@ -8,16 +8,12 @@ use Rattle.controller.proofs.bits.short.Goals as goal
 pub returns-then-not-taking : goal.returns-then-not-taking
 returns-then-not-taking c = λ now ram icons. edges_idle _ now _ (test_false c.taking.ensures c.if-not-taking.true)
 
-pub joined-requires : goal.joined-requires
-joined-requires c =
-    (group_bounds _ _ c.requires.count_value_2).0
-
-pub overflow_add-serial : goal.overflow_add-serial
-overflow_add-serial c =
+pub grown-requires : goal.grown-requires
+grown-requires c =
     omega (arith, not_completed _ _ c.requires.count_value (test_true c.taking.ensures c.if-not-taking.false))
 
 pub returns : goal.returns
 returns c =
     let t = test_true c.taking.ensures c.if-not-taking.false in
-    λ now ram icons. simp (c.with_bits.ensures, c.joined.ensures)
-    (edges_short _ _ now _ t (not_completed _ _ c.requires.count_value t) (Fits-lt-pow c.struct_known-1.given.1.1.0) (group_bounds _ _ c.requires.count_value_2).1)
+    λ now ram icons. simp c.grown.ensures
+    (edges_short _ _ now _ t (not_completed _ _ c.requires.count_value t) (search rules) (group_bounds _ _ c.requires.count_value_2).1)

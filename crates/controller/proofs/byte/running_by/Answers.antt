@@ -7,6 +7,6 @@ returns c =
       c.runs-2.ensures,
       c.runs.ensures,
       c.conditions_of-after.ensures,
-      c.power_then-then.ensures,
+      c.power_then.ensures,
       c.conditions_of-before.ensures,
     )

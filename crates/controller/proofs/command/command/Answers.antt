@@ -6,6 +6,7 @@ pub returns-then-awaits : goal.returns-then-awaits
 unfolding command_step
 returns-then-awaits c =
     simp (
+      c.unstored.ensures,
       c.with_pending.ensures,
       c.in_default.is,
       ← c.awaits.ensures,
@@ -27,7 +28,7 @@ unfolding command_step parameter_taken with_serial
 returns c =
     simp (
       c.with_pending-2.ensures,
-      c.analog_with-analog.ensures,
-      c.display_with-display.ensures,
-      c.in-Command.is,
+      c.analog_with-next.ensures,
+      c.display_with-next.ensures,
+      c.in-Some.is,
     )

@@ -1,10 +1,14 @@
-use Rattle.controller.specs.Supply.{fallen}
 use Rattle.scan.proofs.Answers.{fall_passed}
-use Rattle.controller.proofs.Checks.{scan_timed}
+use Rattle.controller.specs.State.{with_scan}
+use Rattle.controller.specs.Supply.{fallen}
+use Rattle.controller.proofs.Checks.{ok_value, scan_timed}
 use Rattle.controller.proofs.supply.fallen.Goals as goal
 
+pub unwrap-requires : goal.unwrap-requires
+unwrap-requires c = rw (fall_passed _ _ _ c.fall.result c.fall.ensures (scan_timed _ _ c.requires))
+
 pub returns : goal.returns
-unfolding fallen
+unfolding fallen with_scan
 returns c =
-    let x = c.args.state in
-    simp (c.selected_as-serial.ensures, c.with_ready-power.ensures, fall_passed x.scan x.display c.args.now c.fall-stopped.result c.fall-stopped.ensures (scan_timed x c.args.now c.requires))
+    let counted = ok_value c.unwrap.ensures (fall_passed _ _ _ c.fall.result c.fall.ensures (scan_timed _ _ c.requires)) in
+    simp (c.with_scan-next.ensures, c.selected_as-next.ensures, counted)

@@ -1,11 +1,13 @@
-use Rattle.controller.specs.State.{with_scan}
-use Rattle.controller.specs.Supply.{warm_risen}
 use Rattle.scan.proofs.Answers.{rise_passed}
-use Rattle.controller.proofs.Checks.{scan_timed}
+use Rattle.controller.specs.Supply.{warm_risen}
+use Rattle.controller.proofs.Checks.{ok_value, scan_timed}
 use Rattle.controller.proofs.supply.warm_risen.Goals as goal
 
+pub unwrap-requires : goal.unwrap-requires
+unwrap-requires c = rw (rise_passed _ _ _ _ c.rise.result c.rise.ensures (scan_timed _ _ c.requires))
+
 pub returns : goal.returns
-unfolding warm_risen with_scan
+unfolding warm_risen
 returns c =
-    let x = c.args.state in
-    simp (rise_passed x.scan x.display c.args.now _ c.rise-after.result c.rise-after.ensures (scan_timed x c.args.now c.requires), c.runs.ensures, c.conditions_of-conditions.ensures)
+    let resumed = ok_value c.unwrap.ensures (rise_passed _ _ _ _ c.rise.result c.rise.ensures (scan_timed _ _ c.requires)) in
+    simp (c.with_scan.ensures, resumed, c.runs-runs.ensures, c.conditions_of.ensures)

@@ -7,13 +7,13 @@ use Rattle.decimal.proofs.Printing.{put_next, put_done}
 use Rattle.decimal.specs.Print.{put}
 use Rattle.decimal.proofs.print.put_bytes.Goals as goal
 
-pub loop-i-preserved : goal.loop-i-preserved
-loop-i-preserved c =
+pub loop-byte-preserved : goal.loop-byte-preserved
+loop-byte-preserved c =
     let bytes = c.args.bytes.now in
-    let i = c.loop-i.i in
-    let p : List ℕ × ℕ = (c.loop-i.out, c.loop-i.next) in
-    (ap (λ (q : List ℕ × ℕ). put q (drop (i + 1) bytes)) c.put_byte-next.ensures ∙ sym (put_next p bytes i (search rules)) ∙ c.loop-i.invariant.0, c.put_byte-next.auto.out ∙ c.loop-i.invariant.1)
+    let i = c.loop-byte.byte-index in
+    let p : List ℕ × ℕ = (c.loop-byte.out, c.loop-byte.next) in
+    ap (λ (q : List ℕ × ℕ). put q (drop (i + 1) bytes)) c.put_byte-next.ensures ∙ sym (put_next p bytes i (search rules)) ∙ c.loop-byte.invariant
 
 pub returns : goal.returns
 returns c =
-    sym (put_done (c.loop-i.out, c.loop-i.next) c.args.bytes.now c.loop-i.i (search rules)) ∙ c.loop-i.invariant.0
+    sym (put_done (c.loop-byte.out, c.loop-byte.next) c.args.bytes.now c.loop-byte.byte-index (search rules)) ∙ c.loop-byte.invariant

@@ -1,5 +1,5 @@
 use Prim.Native.Nat.{ℕ}
-use mathlib.Core.Option.{Option}
+use Rattle.std.specs.Prelude.{Option}
 use mathlib.Core.Path.{ap, ◌∙◌}
 use Rattle.controller.specs.Bits.{Outcome, quiet}
 use Rattle.controller.proofs.Groups.{one_bit}

@@ -7,4 +7,4 @@ returns-in_default c = simp c.in_default.is
 
 pub returns : goal.returns
 unfolding clock_put
-returns c = simp c.in-Running.is
+returns c = simp c.in-Some.is

@@ -9,4 +9,4 @@ pub returns : goal.returns
 unfolding power_in
 returns c =
     let back = to_z-of_z {w = w32} (temperature_fits (get_or c.args.w.now 60 0)) in
-    simp (c.power_with.ensures, c.ready_in-ready.ensures, c.temperature_of-temperature.ensures, back)
+    simp (c.ready_in.ensures, c.temperature_of.ensures, back)

@@ -8,4 +8,4 @@ pub returns : goal.returns
 unfolding power_part
 returns c =
     let back = to_z-of_z {w = w32} {z = c.args.power.temperature_millicelsius} (search rules) in
-    simp (c.power_part_with.ensures, c.ready_words.ensures, c.temperature_word-temperature.ensures, back)
+    simp (c.words-r.ensures, c.temperature_word.ensures, back)

@@ -3,4 +3,4 @@ use Rattle.ffi.proofs.state_words.scan_part.Goals as goal
 
 pub returns : goal.returns
 unfolding scan_part
-returns c = simp (c.scan_part_with.ensures, c.running_words.ensures)
+returns c = simp c.running_words-c.ensures

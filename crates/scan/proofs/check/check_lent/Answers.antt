@@ -1,6 +1,7 @@
-use Rattle.scan.specs.Check.{check_lent}
+use Rattle.checks.proofs.Tests.{test_false}
+use Rattle.scan.specs.Check.{in_order, check_lent}
 use Rattle.scan.proofs.check.check_lent.Goals as goal
 
-pub returns : goal.returns
-unfolding check_lent
-returns c = simp (c.in_order.ensures, c.check_of.ensures, c.refusal.ensures, c.unless-settings.ensures, c.unless-time.ensures, c.in_range.ensures, c.unless-memory.ensures, c.memory_ok.ensures)
+pub returns-else-memory_ok : goal.returns-else-memory_ok
+unfolding check_lent in_order
+returns-else-memory_ok c = simp (test_false c.memory_ok.ensures c.if-memory_ok.false)

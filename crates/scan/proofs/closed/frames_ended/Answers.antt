@@ -4,12 +4,12 @@ use Rattle.scan.proofs.closed.frames_ended.Goals as goal
 
 pub nonzero_rem-next : goal.nonzero_rem-next
 nonzero_rem-next c =
-    simp (c.widened-2.ensures, c.frame_of-frame.ensures, frc_count_taken) (frc_count_pos _ (frc_count_of_ok _))
+    simp (c.from-2.ensures, c.frame_of-next.ensures, frc_count_taken) (frc_count_pos _ (frc_count_of_ok _))
 
 pub overflow_cast-next : goal.overflow_cast-next
 overflow_cast-next c =
-    simp (c.widened-2.ensures, c.frame_of-frame.ensures, frc_count_taken) (record { fits = mod_fits _ _ (frc_count_pos _ (frc_count_of_ok _)) (frc_count_small _) })
+    simp (c.from-2.ensures, c.frame_of-next.ensures, frc_count_taken) (record { fits = mod_fits _ _ (frc_count_pos _ (frc_count_of_ok _)) (frc_count_small _) })
 
 pub returns : goal.returns
 returns c =
-    simp (c.widened.ensures, c.widened-2.ensures, c.frame_of-frame.ensures, frc_count_taken)
+    simp (c.from.ensures, c.from-2.ensures, c.frame_of-next.ensures, frc_count_taken)

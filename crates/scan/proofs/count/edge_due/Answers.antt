@@ -1,4 +1,5 @@
-use Rattle.std.proofs.Common.{◌∙◌}
+use Rattle.std.proofs.Common.{◌∙◌, arith}
+use Rattle.clock.proofs.Order.{time_le}
 use Rattle.scan.proofs.Due.{low_lt, remainder_lt, fraction_lt, numerator_lt, seconds_lt, due_by}
 use Rattle.scan.proofs.count.edge_due.Goals as goal
 
@@ -30,12 +31,13 @@ next_span-span-requires-clause-numerator_bound c =
     let lcd = c.requires.rate_value in
     let valid = c.requires.rate_value_2 in numerator_lt k r lcd valid
 
-pub later-next-requires : goal.later-next-requires
-later-next-requires c =
+pub later-requires : goal.later-requires
+later-requires c =
     seconds_lt c.args.clock c.args.rate c.requires.rate_value c.requires.rate_value_2
 
 pub returns : goal.returns
 returns c =
     let a = c.args in
     c.le.ensures
-    ∙ due_by a.clock a.rate c.requires.rate_value c.requires.rate_value_2 a.now c.next_span-span.result c.later-next.result c.next_span-span.ensures c.later-next.ensures
+    ∙ time_le _ _ (omega arith) (omega arith)
+    ∙ due_by a.clock a.rate c.requires.rate_value c.requires.rate_value_2 a.now c.next_span-span.result c.later.result c.next_span-span.ensures c.later.ensures

@@ -13,9 +13,9 @@ edge_due-requires-clause-rate_value c =
 
 pub edge_due-requires-clause-rate_value_2 : goal.edge_due-requires-clause-rate_value_2
 edge_due-requires-clause-rate_value_2 c =
-    let x = c.args.scan in clock_valid x c.requires c.in-Running.is
+    let x = c.args.scan in clock_valid x c.requires c.in-Some.is
 
 pub returns : goal.returns
 returns c =
     let a = c.args in
-    c.edge_due.ensures ∙ due_running a.scan a.now c.in-Running.is
+    c.edge_due.ensures ∙ due_running a.scan a.now c.in-Some.is

@@ -11,30 +11,30 @@ pub overflow_cast-passed : goal.overflow_cast-passed
 overflow_cast-passed c =
     let x = c.args.scan in
     let v = valid_scan_lem x c.requires.scan_value in
-    let h : x.row + c.args.e < rows x = simp (c.widened.ensures, c.rows_in-rows.ensures) at c.if-passed-rows.true in
-    simp c.widened.ensures (record { fits = omega (arith, h, rows_high x.frame, v.frame.duty_high) })
+    let h : x.row + c.args.e < rows x = simp (c.from.ensures, c.from-rows.ensures, c.rows_in.ensures) at c.if-passed-rows.true in
+    simp c.from.ensures (record { fits = omega (arith, h, rows_high x.frame, v.frame.duty_high) })
 
 pub returns-then-passed-rows : goal.returns-then-passed-rows
 unfolding rows_on onward
 returns-then-passed-rows c =
     let x = c.args.scan in
     let v = valid_scan_lem x c.requires.scan_value in
-    let h : x.row + c.args.e < rows x = simp (c.widened.ensures, c.rows_in-rows.ensures) at c.if-passed-rows.true in
-    simp (c.with_counters.ensures, c.inversion_on-next.ensures, c.widened.ensures, div-eq_of_lt h, mod-eq_of_lt h, add-zero, mod-eq_of_lt v.frc_below)
+    let h : x.row + c.args.e < rows x = simp (c.from.ensures, c.from-rows.ensures, c.rows_in.ensures) at c.if-passed-rows.true in
+    simp (c.with_counters.ensures, c.inversion_on-next.ensures, c.from.ensures, div-eq_of_lt h, mod-eq_of_lt h, add-zero, mod-eq_of_lt v.frc_below)
 
 pub nonzero_div-frames : goal.nonzero_div-frames
 nonzero_div-frames c =
-    simp c.rows_in-rows.ensures (omega (arith, (valid_scan_lem c.args.scan c.requires.scan_value).row_below))
+    simp (c.from-rows.ensures, c.rows_in.ensures) (omega (arith, (valid_scan_lem c.args.scan c.requires.scan_value).row_below))
 
 pub nonzero_rem-row : goal.nonzero_rem-row
 nonzero_rem-row c =
-    simp c.rows_in-rows.ensures (omega (arith, (valid_scan_lem c.args.scan c.requires.scan_value).row_below))
+    simp (c.from-rows.ensures, c.rows_in.ensures) (omega (arith, (valid_scan_lem c.args.scan c.requires.scan_value).row_below))
 
 pub overflow_cast-row : goal.overflow_cast-row
 overflow_cast-row c =
     let x = c.args.scan in
     let v = valid_scan_lem x c.requires.scan_value in
-    simp c.rows_in-rows.ensures (record { fits = mod_fits _ _ (omega (arith, v.row_below)) (omega (arith, rows_high x.frame, v.frame.duty_high)) })
+    simp (c.from-rows.ensures, c.rows_in.ensures) (record { fits = mod_fits _ _ (omega (arith, v.row_below)) (omega (arith, rows_high x.frame, v.frame.duty_high)) })
 
 pub phase_on-frc-requires-clause-phases_nonzero : goal.phase_on-frc-requires-clause-phases_nonzero
 phase_on-frc-requires-clause-phases_nonzero c =
@@ -45,4 +45,4 @@ phase_on-frc-requires-clause-phases_nonzero c =
 pub returns : goal.returns
 unfolding rows_on onward
 returns c =
-    simp (c.with_counters-2.ensures, c.phase_on-frc.ensures, c.inversion_on-next-2.ensures, c.widened.ensures, c.rows_in-rows.ensures)
+    simp (c.with_counters-2.ensures, c.phase_on-frc.ensures, c.inversion_on-next-2.ensures, c.from.ensures, c.from-rows.ensures, c.rows_in.ensures)

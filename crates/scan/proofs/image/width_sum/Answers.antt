@@ -5,19 +5,18 @@ use Rattle.scan.proofs.image.width_sum.Goals as goal
 
 pub loop-phase-init : goal.loop-phase-init
 unfolding widths
-loop-phase-init c = (omega arith, refl)
+loop-phase-init c = refl
 
 pub pulse_width-requires-clause-phase_bound : goal.pulse_width-requires-clause-phase_bound
-pulse_width-requires-clause-phase_bound c = omega (arith, c.frc_count_of-phases.ensures, (frc_bounds c.args.settings.gray_mode).1)
+pulse_width-requires-clause-phase_bound c = omega (arith, c.frc_count_of-phase-end.ensures, (frc_bounds c.args.settings.gray_mode).1)
 
 pub overflow_add-sum : goal.overflow_add-sum
 overflow_add-sum c =
     let a = c.args in
-    let phase : c.loop-phase.phase ≤ 4 = omega (arith, c.frc_count_of-phases.ensures, (frc_bounds a.settings.gray_mode).1) in
+    let phase : c.loop-phase.phase ≤ 4 = omega (arith, c.frc_count_of-phase-end.ensures, (frc_bounds a.settings.gray_mode).1) in
     omega (arith, widths_fit a.settings a.shade c.loop-phase.phase phase)
 
 pub loop-phase-preserved : goal.loop-phase-preserved
 loop-phase-preserved c =
-    let a = c.args in
-    let more = widths_more a.settings a.shade c.loop-phase.phase in
-    (omega arith, simp (c.loop-phase.invariant.1, c.pulse_width.ensures, c.pwm_of-pwm.ensures) more)
+    let more = widths_more c.args.settings c.args.shade c.loop-phase.phase in
+    simp (c.loop-phase.invariant, c.from-sum.ensures, c.pulse_width.ensures, c.pwm_of-pwm.ensures) more

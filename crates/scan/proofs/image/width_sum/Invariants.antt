@@ -1,9 +1,6 @@
-use Rattle.std.proofs.Common.{◌≡◌, ◌-◌, ◌≤◌}
+use Rattle.std.proofs.Common.{◌≡◌}
 use Rattle.scan.specs.Image.{widths}
 use Rattle.scan.proofs.image.width_sum.Given as goal
 
 abbrev pub invariant-loop-phase : goal.invariant-loop-phase
-invariant-loop-phase l = (l.phase ≤ l.phases) × (l.sum ≡ widths l.settings l.shade l.phase)
-
-abbrev pub decreases-loop-phase : goal.decreases-loop-phase
-decreases-loop-phase l = l.phases - l.phase
+invariant-loop-phase l = l.sum ≡ widths l.settings l.shade l.phase

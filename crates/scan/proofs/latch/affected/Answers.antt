@@ -1,15 +1,15 @@
-use Rattle.std.proofs.Common.{eq-eqb, ne_eqb}
+use Rattle.std.proofs.Common.{ne_eqb}
 use Rattle.scan.specs.Latch.{affects}
 use Rattle.scan.proofs.latch.affected.Goals as goal
 
-pub returns-in_default : goal.returns-in_default
+pub returns-in-None : goal.returns-in-None
 unfolding affects
-returns-in_default c = rw c.in_default.is
+returns-in-None c = rw c.in-None.is
 
-pub returns-then-number-eq16 : goal.returns-then-number-eq16
+pub returns-in-Some-eq16 : goal.returns-in-Some-eq16
 unfolding affects
-returns-then-number-eq16 c = rw c.in-Page.is (simp (eq-eqb _ _ c.if-number-eq16.true))
+returns-in-Some-eq16 c = let h = rw c.in-Some-eq16.is at c.in-Some-eq16.field-0-test in rw (c.in-Some-eq16.is, h)
 
-pub returns : goal.returns
+pub returns-in-Some : goal.returns-in-Some
 unfolding affects
-returns c = rw c.in-Page.is (simp (ne_eqb _ _ c.if-number-eq16.false))
+returns-in-Some c = let h = rw c.in-Some.is at c.in-Some.number-test.1 in rw c.in-Some.is (simp (ne_eqb _ _ h))

@@ -1,10 +1,10 @@
 use Rattle.scan.specs.Latch.{shown}
 use Rattle.scan.proofs.latch.shown.Goals as goal
 
-pub returns-then-latch : goal.returns-then-latch
+pub returns-then-scan : goal.returns-then-scan
 unfolding shown
-returns-then-latch c = simp c.if-latch.true
+returns-then-scan c = simp c.if-scan.true
 
 pub returns : goal.returns
 unfolding shown
-returns c = simp (c.if-latch.false, c.present_latch.ensures)
+returns c = simp (c.if-scan.false, c.present_latch.ensures)

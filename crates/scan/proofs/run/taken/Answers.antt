@@ -4,4 +4,4 @@ use Rattle.scan.proofs.run.taken.Goals as goal
 pub returns : goal.returns
 unfolding taken
 returns c =
-    simp (c.frame_of-frame.ensures, c.rate_of-rate.ensures, c.pwm_of.ensures)
+    simp (c.frame_of-frame.ensures, c.rate_of.ensures, c.pwm_of.ensures)

@@ -14,9 +14,9 @@ advanced-from-requires-clause-scan_value c =
 
 pub loop-left-smaller : goal.loop-left-smaller
 loop-left-smaller c =
-    let some = taken_some _ _ _ (c.requires.scan_value, (c.requires.settings_value, c.requires.quanta_bound)) c.loop-left.invariant c.loop-left-test.true (c.smaller-count.ensures ∙ ap (min c.loop-left.left) c.limit_in.ensures) in
+    let some = taken_some _ _ _ (c.requires.scan_value, (c.requires.settings_value, c.requires.quanta_bound)) c.loop-left.invariant c.loop-left-test.true (c.min-count.ensures ∙ ap (min c.loop-left.left) c.limit_in.ensures) in
     omega (arith, c.loop-left-test.true)
 
 pub loop-left-preserved : goal.loop-left-preserved
 loop-left-preserved c =
-    taken_next _ _ _ (c.requires.scan_value, (c.requires.settings_value, c.requires.quanta_bound)) c.loop-left.invariant c.loop-left-test.true (c.smaller-count.ensures ∙ ap (min c.loop-left.left) c.limit_in.ensures) c.advanced-from.ensures
+    taken_next _ _ _ (c.requires.scan_value, (c.requires.settings_value, c.requires.quanta_bound)) c.loop-left.invariant c.loop-left-test.true (c.min-count.ensures ∙ ap (min c.loop-left.left) c.limit_in.ensures) c.advanced-from.ensures

@@ -9,4 +9,4 @@ unfolding stopped with_ticking
 overflow_sub-scan c = omega (arith, (counters_in_range c.args.scan c.requires).step_below)
 
 pub returns : goal.returns
-returns c = c.widened.ensures
+returns c = c.from.ensures

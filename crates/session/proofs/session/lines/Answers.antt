@@ -1,10 +1,10 @@
 use Prim.Native.Nat.{ℕ}
 use mathlib.Core.List.{List}
-use mathlib.Core.Path.{sym, ap, ◌∙◌}
+use mathlib.Core.Path.{refl, sym, ap, ◌∙◌}
 use native.Mathlib.Omega.{arith}
 use borrow.Author.Rules.{rules}
 use Rattle.session.specs.Session.{number, run_from}
-use Rattle.session.specs.Closed.{judged, machine_of, laid_from}
+use Rattle.session.specs.Closed.{machine_of, laid_from}
 use Rattle.session.proofs.Texts.{no_lines_lem, end_behind, end_within, next_lines}
 use Rattle.session.proofs.Runs.{goes_on_lem, stops, ended_answer, stopped_answer}
 use Rattle.session.proofs.session.lines.Goals as goal
@@ -17,8 +17,8 @@ slice_bounds-next_line-start c =
     let h = end_behind c.args.text.now c.loop-place.place (search rules) c.line_end-end.result c.line_end-end.ensures in
     omega (arith, h)
 
-pub returns-in-Refused : goal.returns-in-Refused
-returns-in-Refused c =
+pub returns-in-Err : goal.returns-in-Err
+returns-in-Err c =
     let l = c.loop-place in
     let text = c.args.text.now in
     let end = c.line_end-end.result in
@@ -27,8 +27,8 @@ returns-in-Refused c =
     (sym (next_lines text l.place (search rules) end c.line_end-end.ensures))
     ∙ l.invariant.1.1.1.1
     in
-    stopped_answer c.refused.result _ _ c.in-Refused.why _ _ _ _ c.refused.ensures
-    ∙ sym (stops _ _ _ _ _ c.next_line-done.ensures (number c.in-Refused.why) (ap judged c.in-Refused.is))
+    stopped_answer c.refused.result _ _ _ _ _ _ c.refused.ensures
+    ∙ sym (stops _ _ _ _ _ c.in-Err.ensures (number c.in-Err.why) refl)
     ∙ from_line
 
 pub loop-place-smaller : goal.loop-place-smaller
@@ -48,9 +48,9 @@ loop-place-preserved c =
     ∙ l.invariant.1.1.1.1
     in
     let h = end_behind text l.place (search rules) end c.line_end-end.ensures in
-    let k = c.next_line-done.auto in
+    let k = c.next_line.auto in
     let i = l.invariant.1 in
-    (omega (arith, h, l.invariant.0), (k.ram ∙ i.0, (k.icons ∙ i.1.0, (k.out ∙ i.1.1.0, sym (goes_on_lem _ _ _ _ _ c.next_line-done.ensures (ap judged c.in_default.is)) ∙ from_line))))
+    (omega (arith, h, l.invariant.0), (k.ram ∙ i.0, (k.icons ∙ i.1.0, (k.out ∙ i.1.1.0, sym (goes_on_lem _ _ _ _ _ c.in-Ok.ensures refl) ∙ from_line))))
 
 pub returns : goal.returns
 returns c =

@@ -1,76 +1,113 @@
-use mathlib.Core.Path.{ap, ◌∙◌}
 use native.Mathlib.Omega.{arith}
 use lib.IntN.{ℤ}
 use mir.Syntax.{w32}
 use mir.Val.{SFits}
 use mir.Facts.{to_z-of_z}
-use Rattle.clock.specs.declared.time.Time.{Time}
-use Rattle.controller.specs.Bits.{shift_in}
-use Rattle.controller.specs.Supply.{set_supply, set_temperature}
-use Rattle.controller.specs.Update.{update}
-use Rattle.controller.specs.Look.{drive_of}
-use Rattle.session.specs.Closed.{timed_done, waited_of}
-use Rattle.session.proofs.Turns.{byte_turn, data_turn, select_turn, supply_turn, temperature_turn, deadline_turn, update_turn, drive_turn, malformed_turn}
+use Rattle.controller.specs.Supply.{set_temperature}
+use mathlib.Core.Path.{ap, ◌∙◌}
+use Rattle.std.specs.Prelude.{Ok, Err}
+use Rattle.std.proofs.lemmas.Result.{err_from_is_err_and}
+use Rattle.session.proofs.Turns.{byte_turn, data_turn, select_turn, supply_turn, temperature_turn, deadline_turn, update_turn, drive_turn, late_data, late_select, late_temperature, late_deadline}
 use Rattle.session.proofs.session.perform.Goals as goal
 
-pub returns-in-Byte : goal.returns-in-Byte
-returns-in-Byte c =
+pub returns-in_err-state-in-Byte : goal.returns-in_err-state-in-Byte
+returns-in_err-state-in-Byte c =
     let a = c.args in
-    rw (c.by_received.ensures, c.in-Byte.is)
-    (byte_turn a.us a.state a.ram.now a.icons.now c.in-Byte.value c.shift_in.result _ _
-    (c.shift_in.ensures ∙ ap (λ (t : Time). shift_in a.state c.in-Byte.value 8 t a.ram.now a.icons.now) c.from_micros-moment.ensures))
+    let p = err_from_is_err_and c.from_residual.result c.from_residual.ensures.1 in
+    rw (p.1, p.2) (byte_turn a.line a.state.now a.ram.now a.icons.now c.from_micros-moment.ensures c.in-Byte.value c.in-Byte.is (Err c.in_err-state-in-Byte.field-0.0) _ _ c.in_err-state-in-Byte.ensures)
 
-pub returns-in-Data : goal.returns-in-Data
-returns-in-Data c =
+pub returns-in_err-timed-in-Data : goal.returns-in_err-timed-in-Data
+returns-in_err-timed-in-Data c =
     let a = c.args in
-    rw (c.timed.ensures ∙ ap (λ (t : Time). timed_done a.state t c.command_data.result) c.from_micros-moment.ensures, c.in-Data.is)
-    (data_turn a.us a.state a.ram.now a.icons.now c.in-Data.on c.command_data.result c.command_data.ensures)
+    let p = err_from_is_err_and c.from_residual-in_err-timed-in-Data.result c.from_residual-in_err-timed-in-Data.ensures.1 in
+    rw (p.1, p.2) (late_data a.line a.state.now a.ram.now a.icons.now c.from_micros-moment.ensures c.in_err-timed-in-Data.field-0.0 c.in_err-timed-in-Data.ensures c.in-Data.on c.in-Data.is)
 
-pub returns-in-Select : goal.returns-in-Select
-returns-in-Select c =
+pub returns-in_err-state-in-Data : goal.returns-in_err-state-in-Data
+returns-in_err-state-in-Data c =
     let a = c.args in
-    rw (c.timed-in-Select.ensures ∙ ap (λ (t : Time). timed_done a.state t c.select.result) c.from_micros-moment.ensures, c.in-Select.is)
-    (select_turn a.us a.state a.ram.now a.icons.now c.in-Select.on c.select.result c.select.ensures)
+    let p = err_from_is_err_and c.from_residual-in_err-state-in-Data.result c.from_residual-in_err-state-in-Data.ensures.1 in
+    rw (p.1, p.2) (data_turn a.line a.state.now a.ram.now a.icons.now c.from_micros-moment.ensures c.in_ok-timed-in-Data.ensures (Err c.in_err-state-in-Data.field-0.0) c.in-Data.on c.in-Data.is c.in_err-state-in-Data.ensures)
 
-pub returns-in-Supply : goal.returns-in-Supply
-returns-in-Supply c =
+pub returns-in_err-timed-in-Select : goal.returns-in_err-timed-in-Select
+returns-in_err-timed-in-Select c =
     let a = c.args in
-    rw (c.by_changed.ensures, c.in-Supply.is)
-    (supply_turn a.us a.state a.ram.now a.icons.now c.in-Supply.millivolts c.set_supply.result
-    (c.set_supply.ensures ∙ ap (λ (t : Time). set_supply a.state c.in-Supply.millivolts t) c.from_micros-moment.ensures))
+    let p = err_from_is_err_and c.from_residual-in_err-timed-in-Select.result c.from_residual-in_err-timed-in-Select.ensures.1 in
+    rw (p.1, p.2) (late_select a.line a.state.now a.ram.now a.icons.now c.from_micros-moment.ensures c.in_err-timed-in-Select.field-0.0 c.in_err-timed-in-Select.ensures c.in-Select.on c.in-Select.is)
 
-pub returns-in-Temperature : goal.returns-in-Temperature
-returns-in-Temperature c =
-    let known = c.in-Temperature.known_told-in-Temperature-1-own.given in
+pub returns-in_err-state-in-Select : goal.returns-in_err-state-in-Select
+returns-in_err-state-in-Select c =
     let a = c.args in
-    let t = c.in-Temperature.t in
-    let fits : SFits w32 t = record { sfits = omega arith } in
-    rw (c.timed-in-Temperature.ensures ∙ ap (λ (t : Time). timed_done a.state t c.set_temperature.result) c.from_micros-moment.ensures, c.in-Temperature.is)
-    (temperature_turn a.us a.state a.ram.now a.icons.now t c.set_temperature.result
-    (c.set_temperature.ensures ∙ ap (λ (z : ℤ). set_temperature a.state z) (to_z-of_z {w = w32} fits)))
+    let p = err_from_is_err_and c.from_residual-in_err-state-in-Select.result c.from_residual-in_err-state-in-Select.ensures.1 in
+    rw (p.1, p.2) (select_turn a.line a.state.now a.ram.now a.icons.now c.from_micros-moment.ensures c.in_ok-timed-in-Select.ensures (Err c.in_err-state-in-Select.field-0.0) c.in-Select.on c.in-Select.is c.in_err-state-in-Select.ensures)
 
-pub returns-in-Deadline : goal.returns-in-Deadline
-returns-in-Deadline c =
+pub returns-in_err-state-in-Supply : goal.returns-in_err-state-in-Supply
+returns-in_err-state-in-Supply c =
     let a = c.args in
-    rw (c.timed-in-Deadline.ensures ∙ ap (λ (t : Time). timed_done a.state t c.waited.result) c.from_micros-moment.ensures, c.in-Deadline.is)
-    (deadline_turn a.us a.state a.ram.now a.icons.now c.waited.result
-    (c.waited.ensures ∙ ap (λ (t : Time). waited_of a.state a.state.power.ready t) c.from_micros-moment.ensures))
+    let p = err_from_is_err_and c.from_residual-in_err-state-in-Supply.result c.from_residual-in_err-state-in-Supply.ensures.1 in
+    rw (p.1, p.2) (supply_turn a.line a.state.now a.ram.now a.icons.now c.from_micros-moment.ensures c.in-Supply.millivolts c.in-Supply.is (Err c.in_err-state-in-Supply.field-0.0) c.in_err-state-in-Supply.ensures)
 
-pub returns-in-Update : goal.returns-in-Update
-returns-in-Update c =
+pub returns-in_err-timed-in-Temperature : goal.returns-in_err-timed-in-Temperature
+returns-in_err-timed-in-Temperature c =
     let a = c.args in
-    rw (c.by_updated.ensures, c.in-Update.is)
-    (update_turn a.us a.state a.ram.now a.icons.now c.update.result
-    (c.update.ensures ∙ ap (λ (t : Time). update a.state t) c.from_micros-moment.ensures))
+    let p = err_from_is_err_and c.from_residual-in_err-timed-in-Temperature.result c.from_residual-in_err-timed-in-Temperature.ensures.1 in
+    rw (p.1, p.2) (late_temperature a.line a.state.now a.ram.now a.icons.now c.from_micros-moment.ensures c.in_err-timed-in-Temperature.field-0.0 c.in_err-timed-in-Temperature.ensures c.in-Temperature.t c.in-Temperature.is)
+
+pub returns-in_err-state-in-Temperature : goal.returns-in_err-state-in-Temperature
+returns-in_err-state-in-Temperature c =
+    let a = c.args in
+    let p = err_from_is_err_and c.from_residual-in_err-state-in-Temperature.result c.from_residual-in_err-state-in-Temperature.ensures.1 in
+    let fits : SFits w32 c.in-Temperature.t = record { sfits = omega arith } in
+    rw (p.1, p.2) (temperature_turn a.line a.state.now a.ram.now a.icons.now c.from_micros-moment.ensures c.in_ok-timed-in-Temperature.ensures (Err c.in_err-state-in-Temperature.field-0.0) c.in-Temperature.t c.in-Temperature.is (c.in_err-state-in-Temperature.ensures ∙ ap (λ (z : ℤ). set_temperature a.state.now z) (to_z-of_z {w = w32} fits)))
+
+pub returns-in_err-timed-in-Deadline : goal.returns-in_err-timed-in-Deadline
+returns-in_err-timed-in-Deadline c =
+    let a = c.args in
+    let p = err_from_is_err_and c.from_residual-in_err-timed-in-Deadline.result c.from_residual-in_err-timed-in-Deadline.ensures.1 in
+    rw (p.1, p.2) (late_deadline a.line a.state.now a.ram.now a.icons.now c.from_micros-moment.ensures c.in_err-timed-in-Deadline.field-0.0 c.in_err-timed-in-Deadline.ensures c.in-Deadline.is)
+
+pub returns-in_err-state-in-Deadline : goal.returns-in_err-state-in-Deadline
+returns-in_err-state-in-Deadline c =
+    let a = c.args in
+    let p = err_from_is_err_and c.from_residual-in_err-state-in-Deadline.result c.from_residual-in_err-state-in-Deadline.ensures.1 in
+    rw (p.1, p.2) (deadline_turn a.line a.state.now a.ram.now a.icons.now c.from_micros-moment.ensures c.in_ok-timed-in-Deadline.ensures (Err c.in_err-state-in-Deadline.field-0.0) c.in-Deadline.is c.in_err-state-in-Deadline.ensures)
+
+pub returns-in_err-state-in-Update : goal.returns-in_err-state-in-Update
+returns-in_err-state-in-Update c =
+    let a = c.args in
+    let p = err_from_is_err_and c.from_residual-in_err-state-in-Update.result c.from_residual-in_err-state-in-Update.ensures.1 in
+    rw (p.1, p.2) (update_turn a.line a.state.now a.ram.now a.icons.now c.from_micros-moment.ensures c.in-Update.is (Err c.in_err-state-in-Update.field-0.0) c.in_err-state-in-Update.ensures)
+
+pub returns-in_err-drive-in-Drive : goal.returns-in_err-drive-in-Drive
+returns-in_err-drive-in-Drive c =
+    let a = c.args in
+    let p = err_from_is_err_and c.from_residual-in_err-drive-in-Drive.result c.from_residual-in_err-drive-in-Drive.ensures.1 in
+    rw (p.1, p.2) (drive_turn a.line a.state.now a.ram.now a.icons.now c.from_micros-moment.ensures c.in-Drive.is (Err c.in_err-drive-in-Drive.field-0.0) c.in_err-drive-in-Drive.ensures)
 
 pub returns-in-Drive : goal.returns-in-Drive
 returns-in-Drive c =
     let a = c.args in
-    rw (c.by_driven.ensures, c.in-Drive.is)
-    (drive_turn a.us a.state a.ram.now a.icons.now c.drive.result
-    (c.drive.ensures ∙ ap (λ (t : Time). drive_of a.state t a.ram.now a.icons.now) c.from_micros-moment.ensures))
+    rw c.row_of.ensures (drive_turn a.line a.state.now a.ram.now a.icons.now c.from_micros-moment.ensures c.in-Drive.is (Ok c.in_ok-drive-in-Drive.field-0) c.in_ok-drive-in-Drive.ensures)
 
-pub returns-in-Malformed : goal.returns-in-Malformed
-returns-in-Malformed c =
+pub returns-in_ok-state-in-Byte : goal.returns-in_ok-state-in-Byte
+returns-in_ok-state-in-Byte c = let a = c.args in byte_turn a.line a.state.now a.ram.now a.icons.now c.from_micros-moment.ensures c.in-Byte.value c.in-Byte.is (Ok c.in_ok-state-in-Byte.field-0) _ _ c.in_ok-state-in-Byte.ensures
+
+pub returns-in_ok-state-in-Data : goal.returns-in_ok-state-in-Data
+returns-in_ok-state-in-Data c = let a = c.args in data_turn a.line a.state.now a.ram.now a.icons.now c.from_micros-moment.ensures c.in_ok-timed-in-Data.ensures (Ok c.in_ok-state-in-Data.field-0) c.in-Data.on c.in-Data.is c.in_ok-state-in-Data.ensures
+
+pub returns-in_ok-state-in-Select : goal.returns-in_ok-state-in-Select
+returns-in_ok-state-in-Select c = let a = c.args in select_turn a.line a.state.now a.ram.now a.icons.now c.from_micros-moment.ensures c.in_ok-timed-in-Select.ensures (Ok c.in_ok-state-in-Select.field-0) c.in-Select.on c.in-Select.is c.in_ok-state-in-Select.ensures
+
+pub returns-in_ok-state-in-Supply : goal.returns-in_ok-state-in-Supply
+returns-in_ok-state-in-Supply c = let a = c.args in supply_turn a.line a.state.now a.ram.now a.icons.now c.from_micros-moment.ensures c.in-Supply.millivolts c.in-Supply.is (Ok c.in_ok-state-in-Supply.field-0) c.in_ok-state-in-Supply.ensures
+
+pub returns-in_ok-state-in-Temperature : goal.returns-in_ok-state-in-Temperature
+returns-in_ok-state-in-Temperature c =
     let a = c.args in
-    rw (c.malformed.ensures, c.in-Malformed.is) (malformed_turn a.us a.state a.ram.now a.icons.now)
+    let fits : SFits w32 c.in-Temperature.t = record { sfits = omega arith } in
+    temperature_turn a.line a.state.now a.ram.now a.icons.now c.from_micros-moment.ensures c.in_ok-timed-in-Temperature.ensures (Ok c.in_ok-state-in-Temperature.field-0) c.in-Temperature.t c.in-Temperature.is (c.in_ok-state-in-Temperature.ensures ∙ ap (λ (z : ℤ). set_temperature a.state.now z) (to_z-of_z {w = w32} fits))
+
+pub returns-in_ok-state-in-Deadline : goal.returns-in_ok-state-in-Deadline
+returns-in_ok-state-in-Deadline c = let a = c.args in deadline_turn a.line a.state.now a.ram.now a.icons.now c.from_micros-moment.ensures c.in_ok-timed-in-Deadline.ensures (Ok c.in_ok-state-in-Deadline.field-0) c.in-Deadline.is c.in_ok-state-in-Deadline.ensures
+
+pub returns-in_ok-state-in-Update : goal.returns-in_ok-state-in-Update
+returns-in_ok-state-in-Update c = let a = c.args in update_turn a.line a.state.now a.ram.now a.icons.now c.from_micros-moment.ensures c.in-Update.is (Ok c.in_ok-state-in-Update.field-0) c.in_ok-state-in-Update.ensures

@@ -1,4 +1,4 @@
-use mir.Facts.{to_z-of_z}
+use Rattle.std.proofs.Math.Facts.{to_z-of_z}
 use mir.Syntax.{w32}
 use Rattle.voltage.specs.Voltage.{voltages, levels}
 use Rattle.voltage.proofs.Checks.{in_range_lem}
@@ -11,16 +11,16 @@ overflow_add-n c = omega (arith, (in_range_lem _ c.requires).bias)
 pub returns : goal.returns
 unfolding voltages levels
 returns c =
-    let back = to_z-of_z {w = w32} {z = c.args.supply.temperature_millicelsius} (record { sfits = c.struct_told-1.given.0.1 }) in
+    let back = to_z-of_z {w = w32} {z = c.args.supply.temperature_millicelsius} (record { sfits = omega arith }) in
     simp (
-      c.share_level-v4.ensures,
-      c.share_level-v3.ensures,
-      c.share_level-v2.ensures,
-      c.share_level-v1.ensures,
-      c.level_at-v0.ensures,
+      back,
+      c.share_level-4.ensures,
+      c.share_level-3.ensures,
+      c.share_level-2.ensures,
+      c.share_level.ensures,
+      c.then_some.ensures,
       c.has_bit.ensures,
       c.v0_present-present.ensures,
       c.pump_of-pump.ensures,
       c.target_of-target.ensures,
-      back,
     )

@@ -22,7 +22,7 @@ pub returns : goal.returns
 unfolding target
 returns c =
     c.microvolts_of.ensures
-    ∙ rw c.widened.ensures
+    ∙ rw c.from.ensures
     (target_is c.args.settings c.args.temperature _ _ _ _ _
     (rw (to_z-of_z c.ranges.temperature) at c.temperature_factor-factor.ensures.exact)
     c.gain_of.ensures.exact c.base_of-base.ensures.exact)

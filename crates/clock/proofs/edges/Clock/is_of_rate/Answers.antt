@@ -1,9 +1,11 @@
 use Prim.Native.Nat.{ℕ, ◌+◌, ◌*◌}
+use mathlib.Core.Bool.{◌&&◌}
 use mathlib.Core.Path.{◌≡◌, ◌∙◌, ap}
 use native.Mathlib.Omega.{arith}
-use lib.Dec.{eqb}
+use lib.Dec.{eqb, ltb}
 use borrow.Author.Tests.{ltb-true, eqb-true}
-use Rattle.checks.proofs.Tests.{both, refutes}
+use Rattle.std.proofs.lemmas.Bool.{and_parts}
+use Rattle.checks.proofs.Tests.{refutes}
 use Rattle.clock.specs.Position.{period}
 use Rattle.clock.specs.Wide.{value}
 use Rattle.clock.proofs.Positions.{of_rate_small, of_rate_by_product}
@@ -14,32 +16,11 @@ pub returns-then-not-self-rate : goal.returns-then-not-self-rate
 returns-then-not-self-rate c =
     refutes (of_rate_small c.args.self c.args.rate (lcd_bounds _ c.requires)) c.if-not-self-rate.true
 
-pub product_is-requires-clause-m_bound : goal.product_is-requires-clause-m_bound
-product_is-requires-clause-m_bound c =
-    let a = c.args in
-    let b = lcd_bounds a.rate c.requires in
-    let small = both _ _ c.if-not-self-rate.false in
-    let rest = both (eqb a.self.denominator a.rate.numerator) _ small.0 in omega (arith, b.high)
-
-pub product_is-requires-clause-c_bound : goal.product_is-requires-clause-c_bound
-product_is-requires-clause-c_bound c =
-    let a = c.args in
-    let b = lcd_bounds a.rate c.requires in
-    let small = both _ _ c.if-not-self-rate.false in
-    let rest = both (eqb a.self.denominator a.rate.numerator) _ small.0 in omega (arith, b.high, ltb-true a.self.remainder a.rate.numerator rest.1)
-
-pub product_is-requires-clause-high_bound : goal.product_is-requires-clause-high_bound
-product_is-requires-clause-high_bound c =
-    let a = c.args in
-    let b = lcd_bounds a.rate c.requires in
-    let small = both _ _ c.if-not-self-rate.false in
-    let rest = both (eqb a.self.denominator a.rate.numerator) _ small.0 in omega (arith, b.denominator_high)
-
 pub returns : goal.returns
 returns c =
     let a = c.args in
-    let small = both _ _ c.if-not-self-rate.false in
-    let rest = both _ _ small.0 in
+    let small = and_parts (eqb a.self.denominator a.rate.numerator && ltb a.self.remainder a.rate.numerator) (eqb a.self.whole.high 0) c.if-not-self-rate.false in
+    let rest = and_parts (eqb a.self.denominator a.rate.numerator) (ltb a.self.remainder a.rate.numerator) small.0 in
     let low : a.self.whole.low ≡ value a.self.whole = omega (arith, eqb-true a.self.whole.high 0 small.1) in
     c.product_is.ensures
     ∙ ap (λ (n : ℕ). eqb (n * a.rate.numerator + a.self.remainder) (period a.rate)) low

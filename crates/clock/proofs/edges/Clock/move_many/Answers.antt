@@ -12,44 +12,29 @@ use Rattle.clock.proofs.Checks.{valid}
 use Rattle.clock.proofs.Rates.{lcd_bounds}
 use Rattle.clock.proofs.edges.Clock.move_many.Goals as goal
 
-pub position_of-begin-requires-clause-at_value : goal.position_of-begin-requires-clause-at_value
-position_of-begin-requires-clause-at_value c =
-    let v = valid c.args.self c.args.rate c.requires.rate_value_2 in v.in_range_lem
+pub position_of-begin-requires-clause-at_in_range : goal.position_of-begin-requires-clause-at_in_range
+position_of-begin-requires-clause-at_in_range c =
+    let v = valid c.args.self c.args.rate c.requires.of_rate in v.in_range_lem
 
 pub position_of-begin-requires-clause-fraction_lt_numerator : goal.position_of-begin-requires-clause-fraction_lt_numerator
 position_of-begin-requires-clause-fraction_lt_numerator c =
-    let v = valid c.args.self c.args.rate c.requires.rate_value_2 in v.fraction_lt
-
-pub overflow_mul-end : goal.overflow_mul-end
-overflow_mul-end c =
-    let a = c.args in
-    let b = lcd_bounds a.rate c.requires.rate_value in
-    let v = valid a.self a.rate c.requires.rate_value_2 in
-    omega (arith, mul-le-mul {n₁ = a.edges} {m₁ = a.rate.denominator} {n₂ = 2 ^ 50} {m₂ = 8} c.requires.edges_bound b.denominator_high)
+    let v = valid c.args.self c.args.rate c.requires.of_rate in v.fraction_lt
 
 pub overflow_add-end : goal.overflow_add-end
 unfolding position
 overflow_add-end c =
     let a = c.args in
-    let b = lcd_bounds a.rate c.requires.rate_value in
-    let v = valid a.self a.rate c.requires.rate_value_2 in
+    let b = lcd_bounds a.rate c.requires.lcd_rate in
+    let v = valid a.self a.rate c.requires.of_rate in
     let h = high_lt a.self a.rate b v in
     simp c.position_of-begin.ensures
     (omega (arith, mul-le-mul {n₁ = a.edges} {m₁ = a.rate.denominator} {n₂ = 2 ^ 50} {m₂ = 8} c.requires.edges_bound b.denominator_high, h))
 
-pub div-q-requires-clause-d_nonzero : goal.div-q-requires-clause-d_nonzero
-div-q-requires-clause-d_nonzero c =
-    let b = lcd_bounds c.args.rate c.requires.rate_value in omega (arith, b.low)
-
-pub div-q-requires-clause-d_bound : goal.div-q-requires-clause-d_bound
-div-q-requires-clause-d_bound c =
-    let b = lcd_bounds c.args.rate c.requires.rate_value in omega (arith, b.high)
-
 pub standing-requires : goal.standing-requires
 standing-requires c =
     let a = c.args in
-    let b = lcd_bounds a.rate c.requires.rate_value in
-    let v = valid a.self a.rate c.requires.rate_value_2 in
+    let b = lcd_bounds a.rate c.requires.lcd_rate in
+    let v = valid a.self a.rate c.requires.of_rate in
     omega (arith, ordinal_lt a.self a.rate b v, c.requires.edges_bound)
 
 pub returns : goal.returns

@@ -1,10 +1,10 @@
-use mathlib.Core.Path.{sym, ◌∙◌}
 use mathlib.Core.Bool.{false≢true}
+use mathlib.Core.Path.{sym, ◌∙◌}
 use Rattle.controller.proofs.Checks.{valid, passes}
 use Rattle.controller.proofs.state.Nt7508.find_setting.Goals as goal
 
-pub returns-in-Refused-found : goal.returns-in-Refused-found
-returns-in-Refused-found c =
-    let ok = passes c.check-check.ensures c.in_default.is in
-    let said = rw c.in-Refused-found.is at c.find_setting-found.ensures in
-    absurd (false≢true (sym said.0 ∙ (valid _ ok).analog))
+pub returns-in_err-found : goal.returns-in_err-found
+returns-in_err-found c =
+    let checked = passes c.check.ensures c.in_ok-check.was in
+    let said = c.in_err-found.ensures in
+    absurd (false≢true (sym said.0 ∙ (valid _ checked).analog))

@@ -1,25 +1,29 @@
-use mathlib.Core.Option.{none}
 use mathlib.Core.Path.{sym, ◌∙◌, ap}
-use Rattle.controller.specs.Bits.{Outcome, shift_in}
-use Rattle.controller.proofs.Checks.{grouped, passes, refused_answer}
+use Rattle.std.specs.Prelude.{None}
+use Rattle.std.proofs.lemmas.Result.{err_from_is_err_and}
+use Rattle.checks.proofs.Results.{refused_at_ok, refused_at_err}
+use Rattle.controller.specs.Check.{number}
+use Rattle.controller.specs.Bits.{Outcome}
+use Rattle.controller.proofs.Checks.{grouped}
 use Rattle.controller.proofs.Groups.{group_passed}
-use Rattle.controller.proofs.Whole.{group_registers, second_fails}
+use Rattle.controller.proofs.Whole.{group_refused, group_registers, second_fails}
 use Rattle.controller.proofs.state.Nt7508.take.Goals as goal
 
-pub returns-in_default : goal.returns-in_default
-unfolding shift_in
-returns-in_default c =
-    simp c.unstored.ensures (refused_answer c.check_group-check.ensures _ _ c.in_default.is)
+pub returns-in_err-check_group : goal.returns-in_err-check_group
+returns-in_err-check_group c =
+    let p = err_from_is_err_and c.from_residual.result c.from_residual.ensures.1 in
+    rw (p.1, p.2) (group_refused _ _ _ _ _ _ _ (refused_at_err number _ c.check_group.ensures c.in_err-check_group.was))
 
-pub short-next-requires : goal.short-next-requires
-short-next-requires c =
-    let checked = passes c.check_group-check.ensures c.in-Passed.is in
-    record {
-      count_value = second_fails c.registers_ok.ensures c.completes.ensures (group_registers _ _ _ _ _ _ checked) c.if-registers_ok-completes.false;
-      count_value_2 = (grouped _ _ _ _ _ _ checked).group_ok_lem;
-    }
+pub short-requires-clause-count_value : goal.short-requires-clause-count_value
+short-requires-clause-count_value c =
+    let checked = refused_at_ok number _ c.check_group.ensures c.in_ok-check_group.was in
+    second_fails c.registers_ok.ensures c.completes.ensures (group_registers _ _ _ _ _ _ checked) c.if-registers_ok-completes.false
+
+pub short-requires-clause-count_value_2 : goal.short-requires-clause-count_value_2
+short-requires-clause-count_value_2 c =
+    (grouped _ _ _ _ _ _ (refused_at_ok number _ c.check_group.ensures c.in_ok-check_group.was)).group_ok_lem
 
 pub returns : goal.returns
 returns c =
-    let checked = passes c.check_group-check.ensures c.in-Passed.is in
-    simp c.unstored-2.ensures (ap (λ (o : Outcome). (none, o)) (sym (c.short-next.ensures _ _ _)) ∙ sym (group_passed _ _ _ _ _ _ checked))
+    let checked = refused_at_ok number _ c.check_group.ensures c.in_ok-check_group.was in
+    simp c.unstored.ensures (ap (λ (o : Outcome). (None, o)) (sym (c.short.ensures _ _ _)) ∙ sym (group_passed _ _ _ _ _ _ checked))

@@ -1,15 +1,18 @@
 use Rattle.scan.proofs.Answers.{count_passed}
 use Rattle.controller.specs.Update.{counted_to, update}
-use Rattle.controller.proofs.Checks.{passes, passed_answer, refused_answer, scan_timed}
+use Rattle.controller.proofs.Checks.{ok_value, passes, scan_timed}
 use Rattle.controller.proofs.state.Nt7508.update.Goals as goal
 
-pub returns-in_default : goal.returns-in_default
-unfolding update
-returns-in_default c = refused_answer c.check_moment-check.ensures _ _ c.in_default.is
+pub returns-in_err-counted : goal.returns-in_err-counted
+returns-in_err-counted c =
+    let checked = passes c.check_moment.ensures c.in_ok-check_moment.was in
+    let counted = count_passed _ _ _ c.count_to.result c.count_to.ensures (scan_timed _ _ checked) in
+    let was = c.in_err-counted.was in
+    absurd cc
 
 pub returns : goal.returns
 unfolding update counted_to
 returns c =
-    let checked = c.check_moment-check.ensures in
-    let unrefused = c.in-Passed.is in
-    rw (c.with_scan-next.ensures, count_passed _ _ _ c.count_to-counted.result c.count_to-counted.ensures (scan_timed _ _ (passes checked unrefused))) (passed_answer checked _ _ unrefused)
+    let checked = passes c.check_moment.ensures c.in_ok-check_moment.was in
+    let counted = ok_value c.in_ok-counted.was (count_passed _ _ _ c.count_to.result c.count_to.ensures (scan_timed _ _ checked)) in
+    rw (checked, c.with_scan.ensures, counted)

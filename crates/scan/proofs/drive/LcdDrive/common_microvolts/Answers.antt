@@ -10,11 +10,12 @@ pub returns-then-self : goal.returns-then-self
 unfolding common_microvolts common_with
 returns-then-self c = simp (le-ltb _ _ c.if-common-gt128.false, c.if-self.true)
 
-pub returns-in_default : goal.returns-in_default
+pub returns-in_err-selected : goal.returns-in_err-selected
 unfolding common_microvolts common_with
-returns-in_default c = simp (le-ltb _ _ c.if-common-gt128.false, c.if-self.false, c.in_default.is)
+returns-in_err-selected c =
+    simp (c.from_residual.ensures, le-ltb _ _ c.if-common-gt128.false, c.if-self.false, c.in_err-selected.was)
 
 pub returns : goal.returns
 unfolding common_microvolts common_with
 returns c =
-    c.common_level.ensures ∙ simp (le-ltb _ _ c.if-common-gt128.false, c.if-self.false, c.in-Selected.is)
+    c.common_level.ensures ∙ simp (le-ltb _ _ c.if-common-gt128.false, c.if-self.false, c.in_ok-selected.was)

@@ -10,11 +10,12 @@ pub returns-then-self : goal.returns-then-self
 unfolding segment_microvolts segment_with
 returns-then-self c = simp (le-ltb _ _ c.if-segment-gt127.false, c.if-self.true)
 
-pub returns-in_default : goal.returns-in_default
+pub returns-in_err-self : goal.returns-in_err-self
 unfolding segment_microvolts segment_with
-returns-in_default c = simp (le-ltb _ _ c.if-segment-gt127.false, c.if-self.false, c.in_default.is)
+returns-in_err-self c =
+    simp (c.from_residual.ensures, le-ltb _ _ c.if-segment-gt127.false, c.if-self.false, c.in_err-self.was)
 
 pub returns : goal.returns
 unfolding segment_microvolts segment_with
 returns c =
-    c.segment_level.ensures ∙ simp (le-ltb _ _ c.if-segment-gt127.false, c.if-self.false, c.in-Selected.is, c.active_in.ensures)
+    c.segment_level.ensures ∙ simp (le-ltb _ _ c.if-segment-gt127.false, c.if-self.false, c.in_ok-self.was, c.active_in.ensures)

@@ -1,9 +1,0 @@
-use Rattle.checks.proofs.Tests.{test_true}
-use Rattle.ffi.proofs.OnBlock.{block_length}
-use Rattle.ffi.proofs.controller_words.nt7508_controller_update.Goals as goal
-
-pub state_of-requires : goal.state_of-requires
-state_of-requires c = block_length _ (test_true c.holds.ensures c.if-not-holds.false)
-
-pub put_updated-requires : goal.put_updated-requires
-put_updated-requires c = block_length _ (test_true c.holds.ensures c.if-not-holds.false)

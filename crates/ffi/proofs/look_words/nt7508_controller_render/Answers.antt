@@ -1,6 +1,0 @@
-use Rattle.checks.proofs.Tests.{test_true}
-use Rattle.ffi.proofs.OnBlock.{block_length}
-use Rattle.ffi.proofs.look_words.nt7508_controller_render.Goals as goal
-
-pub state_of-requires : goal.state_of-requires
-state_of-requires c = block_length _ (test_true c.holds.ensures c.if-not-holds.false)
