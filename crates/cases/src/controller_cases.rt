@@ -23,7 +23,7 @@ use ffi::look_words::{
 };
 use replay::{Replayed, added, fill, sum_of, sum_of_words};
 
-// The number of a call, and the sum of what it gives.
+// The number of a call, and the sum of what it gives. A list has both of each call, so this is no Result.
 #[derive(Clone, Copy, PartialEq)]
 struct Given {
     number: u64,
@@ -211,7 +211,7 @@ fn call_agrees(
         & (sum_of(icons) == w[9])
 }
 
-// Whether ours answers as a line of a kind says.
+// Whether ours answers as a line of a kind says. Kinds and calls are numbers in the list, and are named above.
 fn agrees(
     kind: u64,
     w: &[u64; 108],

@@ -14,7 +14,7 @@ mod words;
 use replay::{Replayed, replay_file};
 use std::io;
 
-// Whether ours answers as a case says.
+// Whether ours answers as a case says. Kinds are numbers in the lists, and each is named where it is replayed.
 fn agrees(kind: u64, w: &[u64; 108]) -> bool {
     match kind {
         1 => clock_cases::micros_agree(w),
