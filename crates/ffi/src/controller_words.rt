@@ -8,8 +8,9 @@ ghost use Rattle.checks.specs.Checks.{row, unless_refused};
 ghost use Rattle.controller.specs.State.{power_on};
 ghost use Rattle.controller.specs.Check.{answered};
 ghost use Rattle.controller.specs.declared.state.Nt7508.{Nt7508};
+ghost use Rattle.controller.specs.Bits.{shift_in};
 ghost use Rattle.ffi.specs.Words.{check_status};
-ghost use Rattle.ffi.specs.StateWords.{state_words};
+ghost use Rattle.ffi.specs.StateWords.{state_of, state_words};
 ghost use Rattle.ffi.specs.ControllerWords.{told_words, event_words, rising_on, shifted_on, selected_on, data_on, supplied_on, temperature_on, lost_on, met_on, updated_on, restored_on};
 
 use crate::fast_words::fast_byte;
@@ -96,6 +97,33 @@ pub fn nt7508_controller_new(state: &mut [u64]) -> u64
     0
 }
 
+// A group that does not take the fast path. A function of its own, since a function clears its locals at its start: here
+// they are large, and cost a byte of the fast path 20 ns.
+fn shifted(
+    block: &mut Block,
+    bits: u8,
+    count: u8,
+    moment: Time,
+    ram: &mut [u8],
+    icons: &mut [u8],
+    event: &mut [u64; 8],
+) -> u64
+    ensures answers { result ≡ check_status (shift_in (state_of block.old) bits count moment ram.old icons.old).0 }
+    ensures leaves { block.new ≡ unless_refused (shift_in (state_of block.old) bits count moment ram.old icons.old).0 (state_words (shift_in (state_of block.old) bits count moment ram.old icons.old).1.state) block.old }
+    ensures tells { event.new ≡ unless_refused (shift_in (state_of block.old) bits count moment ram.old icons.old).0 (event_words (shift_in (state_of block.old) bits count moment ram.old icons.old).1.event) event.old }
+    ensures ram { ram.new ≡ (shift_in (state_of block.old) bits count moment ram.old icons.old).1.ram }
+    ensures icons { icons.new ≡ (shift_in (state_of block.old) bits count moment ram.old icons.old).1.icons }
+{
+    match state_of(block).shift_in(bits, count, moment, ram, icons) {
+        Ok(received) => {
+            put_state(received.state, block);
+            *event = received.event.words();
+            0
+        }
+        Err(refusal) => refusal.number(),
+    }
+}
+
 // One rising edge of the serial clock: a group of one.
 pub fn nt7508_controller_rising(
     state: &mut [u64],
@@ -139,14 +167,7 @@ pub fn nt7508_controller_shift_in(
     if fast_byte(block, bits, count, moment, ram, icons, event) {
         return 0;
     }
-    match state_of(block).shift_in(bits, count, moment, ram, icons) {
-        Ok(received) => {
-            put_state(received.state, block);
-            *event = received.event.words();
-            0
-        }
-        Err(refusal) => refusal.number(),
-    }
+    shifted(block, bits, count, moment, ram, icons, event)
 }
 
 pub fn nt7508_controller_select(state: &mut [u64], on: bool) -> u64
