@@ -11,6 +11,7 @@
 //     length, an image, voltages, edges, the end of the wait, whether there is a pair), or 0 if it is
 //     refused; the sums of the block, of RAM and of icons after it. A sum starts at 0, and each byte,
 //     or each word as its high and its low half, adds as in replay's `added`.
+use clock::Time;
 use ffi::controller_words::{
     nt7508_controller_at_deadline, nt7508_controller_command_data, nt7508_controller_lose_volatile,
     nt7508_controller_restore, nt7508_controller_rising, nt7508_controller_select,
@@ -21,7 +22,8 @@ use ffi::look_words::{
     nt7508_controller_deadline, nt7508_controller_drive, nt7508_controller_find_setting,
     nt7508_controller_render, nt7508_controller_serial_effect_edges, nt7508_controller_voltages,
 };
-use replay::{Replayed, added, fill, sum_of, sum_of_words};
+use replay::{Cases, Replayed, added, fill, sum_of, sum_of_words};
+use scan::Memory;
 
 // The number of a call, and the sum of what it gives. A list has both of each call, so this is no Result.
 #[derive(Clone, Copy, PartialEq)]
@@ -45,202 +47,222 @@ fn gives(number: u64, words: &[u64]) -> Given {
     }
 }
 
-fn rising(
-    w: &[u64; 108],
-    block: &mut [u64; 75],
-    ram: &mut [u8; 4096],
-    icons: &mut [u8; 256],
-) -> Given {
-    let mut event = [0u64; 8];
-    let number = nt7508_controller_rising(block, w[1] != 0, w[3], w[4], ram, icons, &mut event);
-    gives(number, &event)
-}
-
-fn shift_in(
-    w: &[u64; 108],
-    block: &mut [u64; 75],
-    ram: &mut [u8; 4096],
-    icons: &mut [u8; 256],
-) -> Given {
-    let mut event = [0u64; 8];
-    let number = nt7508_controller_shift_in(
-        block,
-        (w[1] % 256) as u8,
-        (w[2] % 256) as u8,
-        w[3],
-        w[4],
-        ram,
-        icons,
-        &mut event,
-    );
-    gives(number, &event)
-}
-
-// Calls that change the state alone, and give nothing.
-fn changed(w: &[u64; 108], block: &mut [u64; 75]) -> u64 {
-    match w[0] {
-        2 => nt7508_controller_select(block, w[1] != 0),
-        3 => nt7508_controller_command_data(block, w[1] != 0),
-        4 => nt7508_controller_set_supply(block, (w[1] % 65536) as u16, w[3], w[4]),
-        5 => nt7508_controller_set_temperature(block, replay::temperature(w[1])),
-        _ => nt7508_controller_at_deadline(block, w[3], w[4]),
+fn moment_of(w: &[u64; 108]) -> Time {
+    Time {
+        seconds: w[3],
+        fraction: w[4],
     }
 }
 
-// Calls that change memory too, and give nothing.
-fn changed_all(
-    w: &[u64; 108],
-    block: &mut [u64; 75],
-    ram: &mut [u8; 4096],
-    icons: &mut [u8; 256],
-) -> u64 {
-    if w[0] == 6 {
-        return nt7508_controller_lose_volatile(block, ram, icons);
-    }
-    nt7508_controller_restore(block, w[3], w[4], ram, icons)
+// A state and its memory, on which the calls of a list work.
+#[derive(Drop)]
+pub(crate) struct Machine {
+    pub(crate) block: [u64; 75],
+    pub(crate) ram: [u8; 4096],
+    pub(crate) icons: [u8; 256],
 }
 
-fn update(w: &[u64; 108], block: &mut [u64; 75]) -> Given {
-    let mut pieces = 0;
-    let number = nt7508_controller_update(block, w[3], w[4], &mut pieces);
-    gives(number, &[u64::from(pieces)])
-}
-
-fn drive(w: &[u64; 108], block: &[u64; 75], ram: &[u8; 4096], icons: &[u8; 256]) -> Given {
-    let mut out = [0u64; 12];
-    let mut frame: u16 = 0;
-    let number = nt7508_controller_drive(block, w[3], w[4], ram, icons, &mut out, &mut frame);
-    if number != 0 {
-        return refused(number);
-    }
-    Given {
-        number: 0,
-        sum: added(added(sum_of_words(&out), 0), u64::from(frame)),
-    }
-}
-
-fn render(block: &[u64; 75], ram: &[u8; 4096], icons: &[u8; 256]) -> Given {
-    let mut image = [0u8; 6144];
-    let number = nt7508_controller_render(block, ram, icons, &mut image);
-    if number != 0 {
-        return refused(number);
-    }
-    Given {
-        number: 0,
-        sum: sum_of(&image),
-    }
-}
-
-fn voltages(block: &[u64; 75]) -> Given {
-    let mut out = [0u64; 7];
-    let number = nt7508_controller_voltages(block, &mut out);
-    gives(number, &out)
-}
-
-fn edges(w: &[u64; 108], block: &[u64; 75]) -> Given {
-    let mut out = 0;
-    let number = nt7508_controller_serial_effect_edges(block, w[1] != 0, &mut out);
-    gives(number, &[u64::from(out)])
-}
-
-fn deadline(block: &[u64; 75]) -> Given {
-    let mut out = [0u64; 3];
-    let number = nt7508_controller_deadline(block, &mut out);
-    gives(number, &out)
-}
-
-// Which pair it is, is open.
-fn found(w: &[u64; 108], block: &[u64; 75]) -> Given {
-    let mut out = [0u64; 3];
-    let number = nt7508_controller_find_setting(
-        block,
-        (w[1] % 4294967296) as u32,
-        (w[2] % 4294967296) as u32,
-        &mut out,
-    );
-    gives(number, &[out[0]])
-}
-
-fn looked(w: &[u64; 108], block: &[u64; 75], ram: &[u8; 4096], icons: &[u8; 256]) -> Given {
-    match w[0] {
-        10 => drive(w, block, ram, icons),
-        11 => render(block, ram, icons),
-        12 => voltages(block),
-        13 => edges(w, block),
-        14 => deadline(block),
-        _ => found(w, block),
-    }
-}
-
-fn called(
-    w: &[u64; 108],
-    block: &mut [u64; 75],
-    ram: &mut [u8; 4096],
-    icons: &mut [u8; 256],
-) -> Given {
-    match w[0] {
-        0 => rising(w, block, ram, icons),
-        1 => shift_in(w, block, ram, icons),
-        2..=5 | 7 => refused(changed(w, block)),
-        6 | 9 => refused(changed_all(w, block, ram, icons)),
-        8 => update(w, block),
-        _ => looked(w, block, ram, icons),
-    }
-}
-
-// The state and the memory in which a list starts.
-fn begin(w: &[u64; 108], block: &mut [u64; 75], ram: &mut [u8; 4096], icons: &mut [u8; 256]) {
-    block.copy_from_slice(&w[..75]);
-    fill(w[75], w[76], ram);
-    fill(w[75], w[76] % 251 + 1, icons);
-}
-
-fn call_agrees(
-    w: &[u64; 108],
-    block: &mut [u64; 75],
-    ram: &mut [u8; 4096],
-    icons: &mut [u8; 256],
-) -> bool {
-    let given = Given {
-        number: w[5],
-        sum: w[6],
-    };
-    (called(w, block, ram, icons) == given)
-        & (sum_of_words(block) == w[7])
-        & (sum_of(ram) == w[8])
-        & (sum_of(icons) == w[9])
-}
-
-// Whether ours answers as a line of a kind says. Kinds and calls are numbers in the list, and are named above.
-fn agrees(
-    kind: u64,
-    w: &[u64; 108],
-    block: &mut [u64; 75],
-    ram: &mut [u8; 4096],
-    icons: &mut [u8; 256],
-) -> bool {
-    match kind {
-        7 => {
-            begin(w, block, ram, icons);
-            true
+impl Machine {
+    pub(crate) fn new() -> Self {
+        Self {
+            block: [0; 75],
+            ram: [0; 4096],
+            icons: [0; 256],
         }
-        8 => call_agrees(w, block, ram, icons),
-        _ => false,
+    }
+
+    fn memory(&self) -> Memory<'_> {
+        Memory {
+            ram: &self.ram,
+            icons: &self.icons,
+        }
+    }
+
+    // Whether the sums of the block, of RAM and of icons are these.
+    pub(crate) fn has_sums(&self, sums: [u64; 3]) -> bool {
+        [
+            sum_of_words(&self.block),
+            sum_of(&self.ram),
+            sum_of(&self.icons),
+        ] == sums
+    }
+
+    fn rising(&mut self, w: &[u64; 108]) -> Given {
+        let mut event = [0u64; 8];
+        let number = nt7508_controller_rising(
+            &mut self.block,
+            w[1] != 0,
+            moment_of(w),
+            &mut self.ram,
+            &mut self.icons,
+            &mut event,
+        );
+        gives(number, &event)
+    }
+
+    fn shift_in(&mut self, w: &[u64; 108]) -> Given {
+        let mut event = [0u64; 8];
+        let number = nt7508_controller_shift_in(
+            &mut self.block,
+            (w[1] % 256) as u8,
+            (w[2] % 256) as u8,
+            moment_of(w),
+            &mut self.ram,
+            &mut self.icons,
+            &mut event,
+        );
+        gives(number, &event)
+    }
+
+    // Calls that change the state, and give nothing.
+    fn changed(&mut self, w: &[u64; 108]) -> u64 {
+        let block = &mut self.block;
+        match w[0] {
+            2 => nt7508_controller_select(block, w[1] != 0),
+            3 => nt7508_controller_command_data(block, w[1] != 0),
+            4 => nt7508_controller_set_supply(block, (w[1] % 65536) as u16, moment_of(w)),
+            5 => nt7508_controller_set_temperature(block, ffi::temperature_of(w[1])),
+            _ => nt7508_controller_at_deadline(block, moment_of(w)),
+        }
+    }
+
+    fn lose_volatile(&mut self) -> u64 {
+        nt7508_controller_lose_volatile(&mut self.block, &mut self.ram, &mut self.icons)
+    }
+
+    fn restore(&mut self, w: &[u64; 108]) -> u64 {
+        let memory = Memory {
+            ram: &self.ram,
+            icons: &self.icons,
+        };
+        nt7508_controller_restore(&mut self.block, moment_of(w), memory)
+    }
+
+    fn update(&mut self, w: &[u64; 108]) -> Given {
+        let mut pieces = 0;
+        let number = nt7508_controller_update(&mut self.block, moment_of(w), &mut pieces);
+        gives(number, &[u64::from(pieces)])
+    }
+
+    fn drive(&self, w: &[u64; 108]) -> Given {
+        let mut out = [0u64; 12];
+        let mut frame: u16 = 0;
+        let number = nt7508_controller_drive(
+            &self.block,
+            moment_of(w),
+            self.memory(),
+            &mut out,
+            &mut frame,
+        );
+        if number != 0 {
+            return refused(number);
+        }
+        Given {
+            number: 0,
+            sum: added(added(sum_of_words(&out), 0), u64::from(frame)),
+        }
+    }
+
+    fn render(&self) -> Given {
+        let mut image = [0u8; 6144];
+        let number = nt7508_controller_render(&self.block, self.memory(), &mut image);
+        if number != 0 {
+            return refused(number);
+        }
+        Given {
+            number: 0,
+            sum: sum_of(&image),
+        }
+    }
+
+    fn voltages(&self) -> Given {
+        let mut out = [0u64; 7];
+        let number = nt7508_controller_voltages(&self.block, &mut out);
+        gives(number, &out)
+    }
+
+    fn edges(&self, w: &[u64; 108]) -> Given {
+        let mut out = 0;
+        let number = nt7508_controller_serial_effect_edges(&self.block, w[1] != 0, &mut out);
+        gives(number, &[u64::from(out)])
+    }
+
+    fn deadline(&self) -> Given {
+        let mut out = [0u64; 3];
+        let number = nt7508_controller_deadline(&self.block, &mut out);
+        gives(number, &out)
+    }
+
+    // Which pair it is, is open.
+    fn found(&self, w: &[u64; 108]) -> Given {
+        let mut out = [0u64; 3];
+        let number = nt7508_controller_find_setting(
+            &self.block,
+            (w[1] % 4294967296) as u32,
+            (w[2] % 4294967296) as u32,
+            &mut out,
+        );
+        gives(number, &[out[0]])
+    }
+
+    // Calls are numbers in the list, and are named above.
+    fn called(&mut self, w: &[u64; 108]) -> Given {
+        match w[0] {
+            0 => self.rising(w),
+            1 => self.shift_in(w),
+            2..=5 | 7 => refused(self.changed(w)),
+            6 => refused(self.lose_volatile()),
+            8 => self.update(w),
+            9 => refused(self.restore(w)),
+            10 => self.drive(w),
+            11 => self.render(),
+            12 => self.voltages(),
+            13 => self.edges(w),
+            14 => self.deadline(),
+            _ => self.found(w),
+        }
+    }
+
+    // The state and the memory in which a list starts.
+    fn begin(&mut self, w: &[u64; 108]) {
+        self.block.copy_from_slice(&w[..75]);
+        fill(w[75], w[76], &mut self.ram);
+        fill(w[75], w[76] % 251 + 1, &mut self.icons);
+    }
+
+    fn call_agrees(&mut self, w: &[u64; 108]) -> bool {
+        let given = Given {
+            number: w[5],
+            sum: w[6],
+        };
+        (self.called(w) == given) & self.has_sums([w[7], w[8], w[9]])
+    }
+
+    // Whether ours answers as a line of a kind says. Kinds are numbers in the list, and are named above.
+    fn agrees(&mut self, kind: u64, w: &[u64; 108]) -> bool {
+        match kind {
+            7 => {
+                self.begin(w);
+                true
+            }
+            8 => self.call_agrees(w),
+            _ => false,
+        }
     }
 }
 
-// Replays the line at a place, if it holds a case, on what the line before left.
-pub(crate) fn line_at(
-    list: &[u8],
-    at: usize,
-    block: &mut [u64; 75],
-    ram: &mut [u8; 4096],
-    icons: &mut [u8; 256],
-) -> Option<Replayed> {
-    let mut w = [0u64; 108];
-    let case = replay::case_at(list, at, &mut w)?;
-    Some(Replayed {
-        next: case.next,
-        agrees: agrees(case.kind, &w, block, ram, icons),
-    })
+// The lines of a list: each is replayed on what the line before left.
+impl Cases for Machine {
+    ghost use Rattle.std.specs.Prelude.{⊤};
+
+    ghost gives = { λ machine list answer left. ⊤ };
+
+    fn replay<'a>(&mut self, list: &'a [u8]) -> Option<Replayed<'a>> {
+        let mut w = [0u64; 108];
+        let case = replay::read_case(list, &mut w)?;
+        Some(Replayed {
+            rest: case.rest,
+            agrees: self.agrees(case.kind, &w),
+        })
+    }
 }

@@ -8,16 +8,12 @@
 mod controller_cases;
 mod session_cases;
 
+use controller_cases::Machine;
 use replay::replay_file;
+use session_cases::Sessions;
 use std::io;
 
 fn main(rt: HostRuntime) -> io::Result<()> {
-    let mut block = [0u64; 75];
-    let mut ram = [0u8; 4096];
-    let mut icons = [0u8; 256];
-    // A line is replayed on what the line before left.
-    replay_file(&rt, "controller", "number", |list, at| {
-        controller_cases::line_at(list, at, &mut block, &mut ram, &mut icons)
-    })?;
-    replay_file(&rt, "session", "number", session_cases::session_at)
+    replay_file(&rt, "controller", "number", &mut Machine::new())?;
+    replay_file(&rt, "session", "number", &mut Sessions)
 }

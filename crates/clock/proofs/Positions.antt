@@ -15,10 +15,10 @@ use Rattle.clock.specs.declared.edges.Clock.{Clock}
 use Rattle.clock.specs.Wide.{value, wide_of}
 use Rattle.clock.specs.Time.{raw}
 use Rattle.clock.specs.Position.{period, position}
-use Rattle.clock.specs.Rate.{is_lcd}
-use Rattle.clock.specs.Check.{is_of_rate, valid_clock}
-use Rattle.clock.proofs.Rates.{Bounds, lcd_bounds}
-use Rattle.clock.proofs.Checks.{Valid, valid}
+use Rattle.std.specs.Prelude.{None}
+use Rattle.clock.specs.Check.{is_of_rate, check_clock}
+use Rattle.clock.proofs.Rates.{Bounds}
+use Rattle.clock.proofs.Checks.{Valid, rated_bounds, rated_valid}
 
 pub value_words : (n : ℕ) → value (wide_of n) ≡ n
 value_words n = div-add-mod' n (2 ^ 64)
@@ -163,10 +163,10 @@ pub record Few (c : Clock) (r : Rate) (n : ℕ) : Type 0 where
   pub numerator_high : r.numerator ≤ 184000
   pub period_parts : value c.whole * r.numerator + c.remainder ≡ period r
 
-pub few : (c : Clock) (r : Rate) (n : ℕ) → is_lcd r ≡ true → valid_clock c r ≡ true → n < 2 ^ 32 → Few c r n
-few c r n l v h =
-    let b = lcd_bounds r l in
-    let k = valid c r v in
+pub few : (c : Clock) (r : Rate) (n : ℕ) → check_clock c r ≡ None → n < 2 ^ 32 → Few c r n
+few c r n e h =
+    let b = rated_bounds c r e in
+    let k = rated_valid c r e in
     let parts = of_rate_period c r b k.of_rate in
     let units = units_lt c.fraction n c.remainder r.numerator k.fraction_lt parts.1.0 h in
     let seconds : c.at.seconds < 2 ^ 32 = omega (arith, ltb-true (raw c.at) (2 ^ 32 * 2 ^ 64) k.in_range_lem) in

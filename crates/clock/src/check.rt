@@ -1,6 +1,5 @@
 // The checks of a clock, in the order of document 01's table.
-ghost use Rattle.std.specs.Prelude.{◌≡◌, true};
-ghost use Rattle.clock.specs.Rate.{is_lcd};
+ghost use Rattle.std.specs.Prelude.{◌≡◌};
 ghost use Rattle.clock.specs.Check.{number, refused, is_of_rate, valid_clock, time_row, rate_row, check_clock};
 
 use crate::edges::Clock;
@@ -8,7 +7,7 @@ use crate::position::position_of;
 use crate::rate::Rate;
 use crate::time::Time;
 use crate::wide::product_is;
-use checks::Numbered;
+use checks::{Check, Checked, Numbered};
 
 // Why a call is turned down.
 #[derive(Clone, Copy, Debug, PartialEq, Eq)]
@@ -30,11 +29,13 @@ impl Numbered for Refusal {
     }
 }
 
-impl Time {
-    // Number 1.
-    pub(crate) fn check(self) -> Result<(), Refusal>
-        ensures { refused result ≡ time_row self }
-    {
+// Number 1.
+impl Check for Time {
+    type Refusal = Refusal;
+
+    ghost refusal = { time_row };
+
+    fn check(self) -> Result<(), Refusal> {
         if !self.in_range() {
             return Err(Refusal::Time);
         }
@@ -42,11 +43,13 @@ impl Time {
     }
 }
 
-impl Rate {
-    // Number 4.
-    pub(crate) fn check(self) -> Result<(), Refusal>
-        ensures { refused result ≡ rate_row self }
-    {
+// Number 4.
+impl Check for Rate {
+    type Refusal = Refusal;
+
+    ghost refusal = { rate_row };
+
+    fn check(self) -> Result<(), Refusal> {
         if !self.is_lcd() {
             return Err(Refusal::Rate);
         }
@@ -56,11 +59,11 @@ impl Rate {
 
 impl Clock {
     // Whether period and denominator are the rate's: a product tells it without a division.
-    #[tactic(auto, using(crate::proofs::Rates::lcd_bounds))]
-    fn is_of_rate(self, rate: Rate) -> bool
-        requires { is_lcd rate ≡ true }
-        ensures { result ≡ is_of_rate self rate }
+    #[tactic(auto, using(crate::proofs::Checks::lcd_passed))]
+    fn is_of_rate(self, rate: Checked<Rate>) -> bool
+        ensures { result ≡ is_of_rate self rate.value }
     {
+        let rate = rate.value;
         if !((self.denominator == rate.numerator)
             & (self.remainder < rate.numerator)
             & (self.whole.high == 0))
@@ -76,20 +79,20 @@ impl Clock {
     }
 
     // Number 5.
-    #[tactic(auto, using(crate::proofs::Rates::lcd_bounds), unfolding(crate::specs::Check::valid_clock))]
-    fn valid(self, rate: Rate) -> bool
-        requires { is_lcd rate ≡ true }
-        ensures { result ≡ valid_clock self rate }
+    #[tactic(auto, using(crate::proofs::Checks::lcd_passed), unfolding(crate::specs::Check::valid_clock))]
+    fn valid(self, rate: Checked<Rate>) -> bool
+        ensures { result ≡ valid_clock self rate.value }
     {
-        if !(self.is_of_rate(rate) & (self.fraction < rate.numerator) & self.at.in_range()) {
+        let is_below = self.fraction < rate.value.numerator;
+        if !(self.is_of_rate(rate) & is_below & self.at.in_range()) {
             return false;
         }
-        let position = position_of(self.at, self.fraction, rate);
+        let position = position_of(Checked { value: self.at }, self.fraction, rate);
         // A product, where it has room, since a division is slow.
         if self.ordinal > position.high {
             return false;
         }
-        self.ordinal * rate.denominator <= position.high
+        self.ordinal * rate.value.denominator <= position.high
     }
 
     // Numbers 4 and 5.
@@ -97,7 +100,7 @@ impl Clock {
     pub fn check(self, rate: Rate) -> Result<(), Refusal>
         ensures { refused result ≡ check_clock self rate }
     {
-        rate.check()?;
+        let rate = Checked::new(rate)?;
         if !self.valid(rate) {
             return Err(Refusal::Clock);
         }

@@ -6,6 +6,7 @@ mod check;
 mod edges;
 mod position;
 mod rate;
+mod rated;
 mod time;
 mod wide;
 

@@ -13,20 +13,21 @@ const OSCILLATOR_RATES: [u64; 4] = [92000, 122000, 147000, 184000];
 
 impl Rate {
     // The rate of the oscillator settings and the scan's rows. A frequency setting above 31, which
-    // the table has no entry for, has the rate 0, which is no LCD rate.
+    // the table has no entry for, has the rate 0, which is no LCD rate: this call cannot fail, so that it
+    // answers no Option.
     pub fn lcd(oscillator_control: u8, oscillator_frequency: u8, rows: u16) -> Self
         ensures { result ≡ lcd_rate oscillator_control oscillator_frequency rows }
     {
         if oscillator_control / 2 % 2 == 0 {
             return Self {
-                numerator: 1008 * rows as u64,
+                numerator: 1008 * u64::from(rows),
                 denominator: 1,
             };
         }
-        let setting = (oscillator_frequency / 8) as usize;
+        let setting = usize::from(oscillator_frequency / 8);
         Self {
             numerator: OSCILLATOR_RATES.get(setting).copied().unwrap_or(0),
-            denominator: (oscillator_frequency % 8) as u64 + 1,
+            denominator: u64::from(oscillator_frequency % 8) + 1,
         }
     }
 

@@ -65,7 +65,7 @@ impl Time {
         let seconds = self
             .seconds
             .checked_add(duration.seconds)?
-            .checked_add(carry as u64)?;
+            .checked_add(u64::from(carry))?;
         Some(Time { seconds, fraction })
     }
 }

@@ -19,6 +19,9 @@ pub struct Quotient {
 // 2^32, the base of the halves.
 const HALF: u64 = 0x1_0000_0000;
 
+// That a number has 32 bits stands below as a `requires`, and not as the type u32: the fields of a clock and of a
+// rate are words of 64 bits, so that each caller would have to narrow them.
+
 // w × m + c, where the high word has room for it.
 pub(crate) fn mul_add(w: Wide, m: u64, c: u64) -> Wide
     requires high_bound { w.high < 2 ^ 32 }
@@ -70,7 +73,7 @@ pub(crate) fn difference(a: Wide, b: Wide) -> Wide
 {
     let (low, borrow) = a.low.overflowing_sub(b.low);
     Wide {
-        high: a.high - b.high - borrow as u64,
+        high: a.high - b.high - u64::from(borrow),
         low,
     }
 }
@@ -82,7 +85,7 @@ pub(crate) fn sum(a: Wide, b: Wide) -> Wide
 {
     let (low, carry) = a.low.overflowing_add(b.low);
     Wide {
-        high: a.high + b.high + carry as u64,
+        high: a.high + b.high + u64::from(carry),
         low,
     }
 }

@@ -1,7 +1,7 @@
 -- What the checks come to: the conditions of number 3 group by group, what a call knows once its rows pass, and the checks of
 -- the scan's calls out of those of the controller's.
 use Prim.Native.Nat.{ℕ, ◌<◌}
-use mathlib.Core.Bool.{Bool, true, ◌&&◌}
+use mathlib.Core.Bool.{Bool, true, false, ◌&&◌}
 use mathlib.Core.List.{List}
 use borrow.Author.Tests.{ltb-true}
 use Rattle.std.specs.Prelude.{Option, Some, None, Result, Ok, Err}
@@ -14,6 +14,7 @@ use Rattle.checks.proofs.Results.{refused_at_ok, refused_at_err}
 use Rattle.checks.proofs.Tests.{both}
 use Rattle.clock.specs.declared.time.Time.{Time}
 use Rattle.clock.specs.Time.{in_range}
+use Rattle.clock.specs.Check.{time_row}
 use Rattle.scan.specs.declared.state.Scan.{Scan}
 use Rattle.scan.specs.Check.{memory_ok, image_ok, check_scan}
 use Rattle.scan.specs.Check as display
@@ -100,6 +101,10 @@ timed x now h = let p = rows_passed _ _ _ _ _ _ h in record { in_range_lem = row
 pub timed_check : (x : Nt7508) (now : Time) → Timed x now → check_moment x now ≡ None
 unfolding check_moment in_order
 timed_check x now t = simp (t.in_range_lem, t.state)
+
+-- where the moment and the state passed checks of their own
+pub both_passed : (x : Nt7508) (now : Time) → check_state x ≡ None → time_row now ≡ None → check_moment x now ≡ None
+both_passed x now s t = timed_check x now (record { in_range_lem = row_passed 1 _ t; state = s })
 
 -- one that takes lent memory
 pub record Stored (x : Nt7508) (ram icons : List ℕ) : Type 0 where
@@ -215,6 +220,20 @@ lent_chain x now ram icons =
     ap (λ (c : Option ℕ). first_of memory (first_of time c)) (first_none (first_of state (check_scan x.scan)))
     ∙ ap (first_of memory) (sym (first_first time state (check_scan x.scan)))
     ∙ sym (first_first memory (first_of time state) (check_scan x.scan))
+
+-- and those of a group are these and then the group's
+pub group_chain : (x : Nt7508) (bits count : ℕ) (now : Time) (ram icons : List ℕ) → check_group x bits count now ram icons ≡ first_of (check_lent x now ram icons) (row 7 (group_ok bits count))
+unfolding check_group check_lent in_order
+group_chain x bits count now ram icons =
+    let memory = row 2 (memory_ok ram icons) in
+    let time = row 1 (in_range now) in
+    let group = row 7 (group_ok bits count) in
+    ap (λ (c : Option ℕ). first_of memory (first_of time (first_of c group))) (sym (first_none (check_state x)))
+    ∙ ap (first_of memory) (sym (first_first time (first_of (check_state x) None) group))
+    ∙ sym (first_first memory (first_of time (first_of (check_state x) None)) group)
+
+pub group_refuses : (x : Nt7508) (bits count : ℕ) (now : Time) (ram icons : List ℕ) → check_lent x now ram icons ≡ None → group_ok bits count ≡ false → Some 7 ≡ check_group x bits count now ram icons
+group_refuses x bits count now ram icons l g = rw (group_chain x bits count now ram icons, l, g)
 
 -- a refusal of the scan keeps its number
 pub of_scan_number : (why : scan.Refusal) → number (of_scan why) ≡ display.number why

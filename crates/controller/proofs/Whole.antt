@@ -19,6 +19,7 @@ use Rattle.scan.specs.declared.settings.Settings.{Settings}
 use Rattle.scan.specs.declared.state.Scan.{Scan}
 use Rattle.scan.specs.Check as display
 use Rattle.scan.specs.Check.{memory_ok, check_scan}
+use Rattle.scan.specs.Count.{count_to, pieces, count_scan}
 use Rattle.scan.specs.Drive.{runs, drive_at, frame_at, off, drive_scan}
 use Rattle.voltage.specs.Check as analog
 use Rattle.scan.specs.Run.{running_after, updated, byte_scan}
@@ -27,14 +28,15 @@ use Rattle.controller.specs.declared.state.Nt7508.{Nt7508}
 use Rattle.controller.specs.declared.state.Power.{Power}
 use Rattle.controller.specs.declared.event.Stepped.{Stepped}
 use Rattle.controller.specs.State.{power_on, with_scan, with_address, with_serial}
-use Rattle.controller.specs.Check.{number, awaits, valid_pending, valid_serial, valid_state, check_state, group_ok, in_order, check_group}
+use Rattle.controller.specs.Check.{number, awaits, valid_pending, valid_serial, valid_state, check_state, group_ok, in_order, check_moment, check_group}
 use Rattle.controller.specs.Event.{unstored, ram_after, icons_after}
 use Rattle.controller.specs.Command.{display_after, power_after, acted, parameter_taken}
 use Rattle.controller.specs.Byte.{conditions_of, data_step, page_sent, step_of, byte_taken}
 use Rattle.controller.specs.Bits.{Outcome, taking, with_bits, performed, taken, shift_in}
 use Rattle.controller.specs.Look.{levels_of, drive_of}
-use Rattle.controller.specs.Closed.{check_but_scan, registers_ok, completes, display_by, display_then, power_by, power_then, running_by}
-use Rattle.controller.proofs.Checks.{Valid, valid, called, grouped, first_none, lent_chain}
+use Rattle.controller.specs.Update.{counted_to, update}
+use Rattle.controller.specs.Closed.{check_registers, check_but_scan, registers_ok, completes, display_by, display_then, power_by, power_then, running_by}
+use Rattle.controller.proofs.Checks.{Valid, valid, called, grouped, first_none, first_first, lent_chain}
 use Rattle.controller.proofs.PowerOn.{power_on_valid}
 use Rattle.controller.proofs.Bytes.{updated_unread, step_valid}
 use Rattle.controller.proofs.Groups.{grown_by, whole_byte, byte_bits, edges_over, group_bounds, group_passed}
@@ -263,3 +265,48 @@ module _ (x : Nt7508) (now : Time) (ram icons : List ℕ) where
   pub drive_refused : {n : ℕ} → Some n ≡ check_but_scan x now ram icons → (Some n, (off, 0)) ≡ drive_of x now ram icons
   unfolding drive_of
   drive_refused h = rw (lent_chain x now ram icons, ← h)
+
+-- ---- an update, whose scan is checked by the scan's own call
+-- what the scan's call leaves, with the state around it
+abbrev counted_state : Nt7508 → Option ℕ × (Scan × ℕ) → Option ℕ × (Nt7508 × ℕ)
+counted_state x r = (r.0, (with_scan x r.1.0, r.1.1))
+
+counted_changed : (x : Nt7508) (check : Option ℕ) (z : Scan) (n : ℕ) → counted_state x (changed check (z, n) (x.scan, 0)) ≡ changed check (with_scan x z, n) (x, 0)
+unfolding with_scan
+counted_changed x None z n = refl
+counted_changed x (Some k) z n = refl
+
+module _ (x : Nt7508) (now : Time) where
+  moment_chain : check_moment x now ≡ first_of (check_registers x now) (check_scan x.scan)
+  unfolding check_moment check_registers in_order check_state
+  moment_chain =
+      let time = row 1 (in_range now) in
+      let state = row 3 (valid_state x) in
+      ap (first_of time) (first_none (first_of state (check_scan x.scan))) ∙ sym (first_first time state (check_scan x.scan))
+
+  module _ (h : check_registers x now ≡ None) where
+    count_rows : display.check_moment x.scan (display.valid_settings x.display) now ≡ check_scan x.scan
+    unfolding check_registers display.check_moment display.in_order with_scan
+    count_rows =
+        let q = first_passed (row 1 (in_range now)) _ h in
+        let v = registers x (row_passed 3 (valid_state x) q.1) in
+        simp (row_passed 1 (in_range now) q.0, v.display)
+
+    update_by_scan : counted_state x (count_scan x.scan x.display now) ≡ update x now
+    unfolding count_scan update counted_to
+    update_by_scan =
+        let z = count_to x.scan x.display now in
+        let n = pieces x.scan x.display now in
+        counted_changed x (display.check_moment x.scan (display.valid_settings x.display) now) z n
+        ∙ ap (λ (c : Option ℕ). changed c (with_scan x z, n) (x, 0)) (count_rows ∙ sym (moment_chain ∙ ap (λ (c : Option ℕ). first_of c (check_scan x.scan)) h))
+
+    pub update_counted : {z : Scan} {n : ℕ} → (None, (z, n)) ≡ count_scan x.scan x.display now → (None, (with_scan x z, n)) ≡ update x now
+    update_counted e = ap (counted_state x) e ∙ update_by_scan
+
+    pub count_refused : {k : ℕ} → (Some k, (x.scan, 0)) ≡ count_scan x.scan x.display now → (Some k, (x, 0)) ≡ update x now
+    unfolding with_scan
+    count_refused e = ap (counted_state x) e ∙ update_by_scan
+
+  pub update_refused : {k : ℕ} → Some k ≡ check_registers x now → (Some k, (x, 0)) ≡ update x now
+  unfolding update
+  update_refused h = rw (moment_chain, ← h)

@@ -17,6 +17,10 @@ use Rattle.controller.specs.Command.{display_after, display_with, power_after}
 use Rattle.controller.specs.Byte.{conditions_of}
 use Rattle.controller.specs.Bits.{taking, quiet, edges, unpacked}
 
+-- the checks of a call that takes a moment, but for the scan's: numbers 1 and 3
+unfoldable pub check_registers : Nt7508 → Time → Option ℕ
+check_registers x now = first_of (row 1 (in_range now)) (row 3 (valid_state x))
+
 -- the checks of a call that takes a moment and lent memory, but for the scan's: numbers 2, 1 and 3
 unfoldable pub check_but_scan : Nt7508 → Time → (ram icons : List ℕ) → Option ℕ
 check_but_scan x now ram icons = first_of (row 2 (memory_ok ram icons)) (first_of (row 1 (in_range now)) (row 3 (valid_state x)))

@@ -1,5 +1,7 @@
 // Bits clocked in: one rising edge of the serial clock, and a group of them. `take` checks, takes the
 // bits and says what is to be stored; `rising` and `shift_in` store it in lent memory.
+// The bits of a group and their count stay two arguments, as C hands them: all that holds of both is `group_ok`,
+// which one contract asks for.
 ghost use Rattle.std.specs.Prelude.{◌≡◌, true, false, ◌+◌, ◌*◌, ◌%◌, ◌^◌, ◌≤◌, ◌<◌};
 ghost use Rattle.controller.specs.Check.{group_ok};
 ghost use Rattle.controller.specs.Event.{ram_after, icons_after};
@@ -11,7 +13,9 @@ use crate::byte::byte;
 use crate::check::{Refusal, check_group, registers_ok};
 use crate::event::{Event, Stepped, Store, unstored};
 use crate::state::Nt7508;
+use checks::Checked;
 use clock::Time;
+use scan::Memory;
 
 // The state after bits, and the event of the byte that they completed, if they did.
 #[derive(Clone, Copy, Debug, PartialEq, Eq)]
@@ -43,8 +47,8 @@ fn joined(shift: u8, bits: u8, count: u8) -> u8
     requires { count ≤ 8 }
     ensures { result ≡ (shift * 2 ^ count + bits) % 256 }
 {
-    let high = (shift as u32) << count;
-    ((high + bits as u32) % 256) as u8
+    let high = u32::from(shift) << count;
+    ((high + u32::from(bits)) % 256) as u8
 }
 
 // Bits that are taken and complete no byte.
@@ -64,7 +68,7 @@ fn grown(state: Nt7508, bits: u8, count: u8) -> Nt7508
 pub(crate) fn completes(state: Nt7508, count: u8) -> bool
     ensures { result ≡ completes_of state count }
 {
-    taking(state) & (8 <= (state.serial.bits as u16) + (count as u16))
+    taking(state) & (8 <= u16::from(state.serial.bits) + u16::from(count))
 }
 
 // A group that completes no byte.
@@ -79,28 +83,32 @@ fn short(state: Nt7508, bits: u8, count: u8) -> Nt7508
     grown(state, bits, count)
 }
 
-// A group that completes a byte. Its checks have been made, but for the scan's.
+// A group that completes a byte. Its checks have been made, but for the scan's. Not inline: it has large locals,
+// which an edge that completes no byte would pay for too.
+#[inline(never)]
 fn whole(
     state: Nt7508,
     bits: u8,
     count: u8,
     moment: Time,
-    ram: &[u8],
-    icons: &[u8],
+    memory: Memory<'_>,
 ) -> Result<Stepped, Refusal>
-    requires icons_value { registers_ok state bits count moment ram.now icons.now ≡ true }
+    requires registers { registers_ok state bits count moment memory.ram.now memory.icons.now ≡ true }
     requires count_value { completes_of state count ≡ true }
-    ensures { taken state result ram.now icons.now ≡ shift_in state bits count moment ram.now icons.now }
+    ensures { taken state result memory.entry.ram.now memory.entry.icons.now ≡ shift_in state bits count moment memory.entry.ram.now memory.entry.icons.now }
 {
     let needed = 8 - state.serial.bits;
     let rest = count - needed;
     let value = joined(state.serial.shift, bits >> rest, needed);
-    let mut stepped = byte(with_bits(state, 0, 0), value, moment, ram, icons)?;
+    let taken = Checked { value: moment };
+    let mut stepped = byte(with_bits(state, 0, 0), value, taken, memory)?;
     stepped.state = grown(stepped.state, bits % (1 << rest), rest);
     Ok(stepped)
 }
 
-// Stores the byte in lent memory, if there is one to be stored.
+// Stores the byte in lent memory, if there is one to be stored. Memory that is written stays two slices here and
+// in the calls below: of a struct of two `&mut` a clause would have to say `memory.exit.0.now` and
+// `memory.exit.1.0.now`, and a call that hands it on would lose what it knew.
 pub(crate) fn keep(store: Option<Store>, ram: &mut [u8], icons: &mut [u8])
     ensures ram_after { ram.new ≡ ram_after store ram.old }
     ensures icons_after { icons.new ≡ icons_after store icons.old }
@@ -127,15 +135,14 @@ impl Nt7508 {
         bits: u8,
         count: u8,
         moment: Time,
-        ram: &[u8],
-        icons: &[u8],
+        memory: Memory<'_>,
     ) -> Result<Stepped, Refusal>
-        ensures { taken self result ram.now icons.now ≡ shift_in self bits count moment ram.now icons.now }
+        ensures { taken self result memory.entry.ram.now memory.entry.icons.now ≡ shift_in self bits count moment memory.entry.ram.now memory.entry.icons.now }
     {
-        if registers_ok(self, bits, count, moment, ram, icons) & completes(self, count) {
-            return whole(self, bits, count, moment, ram, icons);
+        if registers_ok(self, bits, count, moment, memory) & completes(self, count) {
+            return whole(self, bits, count, moment, memory);
         }
-        check_group(self, bits, count, moment, ram, icons)?;
+        check_group(self, bits, count, moment, memory)?;
         Ok(unstored(short(self, bits, count)))
     }
 
@@ -150,7 +157,7 @@ impl Nt7508 {
     ) -> Result<Received, Refusal>
         ensures { received self result ram.new icons.new ≡ shift_in self bits count moment ram.old icons.old }
     {
-        let stepped = self.take(bits, count, moment, ram, icons)?;
+        let stepped = self.take(bits, count, moment, Memory { ram, icons })?;
         keep(stepped.store, ram, icons);
         Ok(Received {
             state: stepped.state,
@@ -169,6 +176,6 @@ impl Nt7508 {
     ) -> Result<Received, Refusal>
         ensures { received self result ram.new icons.new ≡ rising_of self bit moment ram.old icons.old }
     {
-        self.shift_in(bit as u8, 1, moment, ram, icons)
+        self.shift_in(u8::from(bit), 1, moment, ram, icons)
     }
 }

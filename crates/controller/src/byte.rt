@@ -2,7 +2,6 @@
 // It reads lent memory and writes none: its answer says what is to be stored.
 ghost use Rattle.std.specs.Prelude.{◌≡◌, true};
 ghost use Rattle.checks.specs.Checks.{changed, left_by};
-ghost use Rattle.clock.specs.Time.{in_range};
 ghost use Rattle.scan.specs.Check.{answered as scan_answered, memory_ok, check_scan};
 ghost use Rattle.scan.specs.Run.{byte_scan};
 ghost use Rattle.controller.specs.Check.{number, valid_state};
@@ -14,8 +13,9 @@ use crate::check::{Refusal, awaits};
 use crate::command::{command, display_after, display_with, power_after};
 use crate::event::{Event, Stepped, Store};
 use crate::state::{Address, Nt7508, Power, Serial, with_scan};
+use checks::Checked;
 use clock::Time;
-use scan::{Conditions, Running, Scan};
+use scan::{Conditions, Memory, Running, Scan};
 use voltage::Supply;
 
 // The conditions that decide whether the scan runs and the glass is driven.
@@ -38,20 +38,17 @@ pub(crate) fn conditions_of(power: Power) -> Conditions
 pub(crate) fn next_column(address: Address) -> Address
     ensures { result ≡ next_column address }
 {
-    let mut next = address;
-    if address.column_byte < 255 {
-        next.column_byte += 1;
-    } else {
-        next.column_byte = 255;
+    Address {
+        column_byte: address.column_byte.saturating_add(1).min(255),
+        ..address
     }
-    next
 }
 
 #[tactic(auto, unfolding(crate::specs::Byte::store_of))]
 pub(crate) fn store_of(address: Address, byte: u8) -> Store
     ensures { result ≡ store_of address byte }
 {
-    let column = (address.column_byte % 256) as usize;
+    let column = usize::from(address.column_byte % 256);
     if address.page == 16 {
         return Store::Icon {
             at: column,
@@ -59,7 +56,7 @@ pub(crate) fn store_of(address: Address, byte: u8) -> Store
         };
     }
     Store::Ram {
-        at: (address.page % 16) as usize * 256 + column,
+        at: usize::from(address.page % 16) * 256 + column,
         value: byte,
     }
 }
@@ -139,14 +136,8 @@ fn running_by(serial: Serial, power: Power, byte: u8) -> Running
 
 // The scan after a byte. What is to be stored is not in lent memory yet: a data byte makes no scan
 // begin, and only a scan that begins reads memory.
-fn scan_by(
-    state: Nt7508,
-    byte: u8,
-    moment: Time,
-    ram: &[u8],
-    icons: &[u8],
-) -> Result<Scan, scan::Refusal>
-    ensures { scan_answered state.scan result ≡ byte_scan state.scan state.display (display_then state.serial state.display byte) moment (page_sent state) (running_by state.serial state.power byte) ram.now icons.now }
+fn scan_by(state: Nt7508, byte: u8, moment: Time, memory: Memory<'_>) -> Result<Scan, scan::Refusal>
+    ensures { scan_answered state.scan result ≡ byte_scan state.scan state.display (display_then state.serial state.display byte) moment (page_sent state) (running_by state.serial state.power byte) memory.entry.ram.now memory.entry.icons.now }
 {
     state.scan.byte(
         state.display,
@@ -154,8 +145,7 @@ fn scan_by(
         moment,
         page_sent(state),
         running_by(state.serial, state.power, byte),
-        ram,
-        icons,
+        memory,
     )
 }
 
@@ -163,15 +153,13 @@ fn scan_by(
 pub(crate) fn byte(
     state: Nt7508,
     byte: u8,
-    moment: Time,
-    ram: &[u8],
-    icons: &[u8],
+    moment: Checked<Time>,
+    memory: Memory<'_>,
 ) -> Result<Stepped, Refusal>
-    requires icons_value { memory_ok ram.now icons.now ≡ true }
-    requires moment_value { in_range moment ≡ true }
+    requires memory_value { memory_ok memory.ram.now memory.icons.now ≡ true }
     requires state_value { valid_state state ≡ true }
-    ensures { left_by number (unstored_of state) result ≡ changed (check_scan state.scan) (byte_taken state byte moment ram.now icons.now) (unstored_of state) }
+    ensures { left_by number (unstored_of state) result ≡ changed (check_scan state.scan) (byte_taken state byte moment.value memory.entry.ram.now memory.entry.icons.now) (unstored_of state) }
 {
-    let scan = scan_by(state, byte, moment, ram, icons)?;
-    Ok(step(with_scan(state, scan), byte, moment))
+    let scan = scan_by(state, byte, moment.value, memory)?;
+    Ok(step(with_scan(state, scan), byte, moment.value))
 }

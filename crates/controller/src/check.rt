@@ -1,16 +1,14 @@
 // The checks of the controller and the table's order: document 01, 'Where a call is turned down'.
 ghost use Rattle.std.specs.Prelude.{◌≡◌};
-ghost use Rattle.checks.specs.Checks.{row};
-ghost use Rattle.clock.specs.Time.{in_range};
-ghost use Rattle.scan.specs.Check.{memory_ok};
-ghost use Rattle.controller.specs.Closed.{check_but_scan, registers_ok};
-ghost use Rattle.controller.specs.Check.{number as number_of, of_scan, refused, awaits as awaits_of, valid_pending, valid_serial, valid_saved, valid_address, valid_power, valid_state, check_state, clock_not_later, ready_not_earlier, restore_ok, group_ok, check_moment, check_memory, check_lent, check_group, check_image, check_restore};
+ghost use Rattle.scan.specs.Check.{by_clock};
+ghost use Rattle.controller.specs.Closed.{check_registers, check_but_scan, registers_ok};
+ghost use Rattle.controller.specs.Check.{number as number_of, of_scan, refused, awaits as awaits_of, valid_pending, valid_serial, valid_saved, valid_address, supplied_at, valid_power, valid_state, check_state, clock_not_later, ready_not_earlier, restore_ok, group_ok, check_moment, check_memory, check_lent, check_group, check_image, check_restore};
 ghost use Rattle.controller.specs.declared.check.Refusal.TheVariants.{State};
 
 use crate::state::{Address, Nt7508, Power, Serial};
-use checks::Numbered;
+use checks::{Check, Numbered};
 use clock::{Clock, Time};
-use scan::Scan;
+use scan::{Memory, Scan, image_ok};
 
 // Why a call is turned down.
 #[derive(Clone, Copy, Debug, PartialEq, Eq)]
@@ -55,6 +53,15 @@ impl From<scan::Refusal> for Refusal {
             scan::Refusal::Scan => Refusal::Scan,
             scan::Refusal::Clock => Refusal::Clock,
         }
+    }
+}
+
+// A refusal of the clock keeps the number that it has of the scan.
+impl From<clock::Refusal> for Refusal {
+    ghost from_gives = { λ why e. e ≡ of_scan (by_clock why) };
+
+    fn from(why: clock::Refusal) -> Refusal {
+        Refusal::from(scan::Refusal::from(why))
     }
 }
 
@@ -105,11 +112,18 @@ fn valid_address(address: Address) -> bool
     (address.page <= 16) & (address.column_byte < 256) & valid_saved(address.saved_column)
 }
 
+// Whether a supply counts as one.
+pub(crate) fn supplied_at(millivolts: u16) -> bool
+    ensures { result ≡ supplied_at millivolts }
+{
+    1650 <= millivolts
+}
+
 #[tactic(auto, unfolding(crate::specs::Check::valid_power))]
 fn valid_power(power: Power) -> bool
     ensures { result ≡ valid_power power }
 {
-    power.supplied == (1650 <= power.supply_millivolts)
+    power.supplied == supplied_at(power.supply_millivolts)
 }
 
 impl Nt7508 {
@@ -126,12 +140,16 @@ impl Nt7508 {
             & self.analog.valid()
             & valid_power(self.power)
     }
+}
 
-    // Numbers 3, 4 and 5.
+// Numbers 3, 4 and 5.
+impl Check for Nt7508 {
+    type Refusal = Refusal;
+
+    ghost refusal = { check_state };
+
     #[tactic(auto, unfolding(crate::specs::Check::check_state))]
-    pub fn check(self) -> Result<(), Refusal>
-        ensures { refused result ≡ check_state self }
-    {
+    fn check(self) -> Result<(), Refusal> {
         if !self.valid() {
             return Err(Refusal::State);
         }
@@ -140,69 +158,51 @@ impl Nt7508 {
     }
 }
 
-// Number 2.
-#[tactic(auto, unfolding(scan::specs::Check::memory_ok))]
-fn check_lengths(ram: &[u8], icons: &[u8]) -> Result<(), Refusal>
-    ensures { refused result ≡ row 2 (memory_ok ram.now icons.now) }
-{
-    if !((ram.len() == 4096) & (icons.len() == 256)) {
-        return Err(Refusal::Memory);
-    }
-    Ok(())
-}
-
-// Number 1.
-fn check_time(now: Time) -> Result<(), Refusal>
-    ensures { refused result ≡ row 1 (in_range now) }
-{
-    if !now.in_range() {
-        return Err(Refusal::Time);
-    }
-    Ok(())
-}
-
 // The checks of a call that takes a moment.
 #[tactic(auto, using(crate::proofs::Checks::first_none), unfolding(crate::specs::Check::check_moment, crate::specs::Check::in_order))]
 pub(crate) fn check_moment(state: Nt7508, now: Time) -> Result<(), Refusal>
     ensures { refused result ≡ check_moment state now }
 {
-    check_time(now)?;
+    now.check()?;
     state.check()
 }
 
 // The checks of a call that takes lent memory.
 #[tactic(auto, using(crate::proofs::Checks::first_none), unfolding(crate::specs::Check::check_memory, crate::specs::Check::in_order))]
-pub(crate) fn check_memory(state: Nt7508, ram: &[u8], icons: &[u8]) -> Result<(), Refusal>
-    ensures { refused result ≡ check_memory state ram.now icons.now }
+pub(crate) fn check_memory(state: Nt7508, memory: Memory<'_>) -> Result<(), Refusal>
+    ensures { refused result ≡ check_memory state memory.entry.ram.now memory.entry.icons.now }
 {
-    check_lengths(ram, icons)?;
+    memory.check()?;
     state.check()
 }
 
-// The checks of a call that takes both, but for the scan's: numbers 2, 1 and 3.
-#[tactic(auto, unfolding(crate::specs::Closed::check_but_scan))]
-pub(crate) fn check_but_scan(
-    state: Nt7508,
-    moment: Time,
-    ram: &[u8],
-    icons: &[u8],
-) -> Result<(), Refusal>
-    ensures { refused result ≡ check_but_scan state moment ram.now icons.now }
+// The checks of a call that takes a moment, but for the scan's: numbers 1 and 3.
+#[tactic(auto, unfolding(crate::specs::Closed::check_registers))]
+pub(crate) fn check_registers(state: Nt7508, now: Time) -> Result<(), Refusal>
+    ensures { refused result ≡ check_registers state now }
 {
-    check_lengths(ram, icons)?;
-    check_time(moment)?;
+    now.check()?;
     if !state.valid() {
         return Err(Refusal::State);
     }
     Ok(())
 }
 
+// The checks of a call that takes both, but for the scan's: numbers 2, 1 and 3.
+#[tactic(auto, unfolding(crate::specs::Closed::check_registers, crate::specs::Closed::check_but_scan))]
+pub(crate) fn check_but_scan(state: Nt7508, moment: Time, memory: Memory<'_>) -> Result<(), Refusal>
+    ensures { refused result ≡ check_but_scan state moment memory.entry.ram.now memory.entry.icons.now }
+{
+    memory.check()?;
+    check_registers(state, moment)
+}
+
 // The checks of a call that takes both.
 #[tactic(auto, using(crate::proofs::Checks::first_none), unfolding(crate::specs::Check::check_lent, crate::specs::Closed::check_but_scan, crate::specs::Check::in_order, crate::specs::Check::check_state))]
-fn check_lent(state: Nt7508, moment: Time, ram: &[u8], icons: &[u8]) -> Result<(), Refusal>
-    ensures { refused result ≡ check_lent state moment ram.now icons.now }
+fn check_lent(state: Nt7508, moment: Time, memory: Memory<'_>) -> Result<(), Refusal>
+    ensures { refused result ≡ check_lent state moment memory.entry.ram.now memory.entry.icons.now }
 {
-    check_but_scan(state, moment, ram, icons)?;
+    check_but_scan(state, moment, memory)?;
     state.scan.check()?;
     Ok(())
 }
@@ -214,42 +214,36 @@ fn group_ok(bits: u8, count: u8) -> bool
     if count > 8 {
         return false;
     }
-    (bits as u16) < 1 << count
+    u16::from(bits) < 1 << count
 }
 
 // The rows of a group of bits but for the scan's: numbers 2, 1, 3 and 7. Inline, as the state's check is.
 #[inline(always)]
-#[tactic(auto, unfolding(crate::specs::Closed::registers_ok, scan::specs::Check::memory_ok))]
+#[tactic(auto, unfolding(crate::specs::Closed::registers_ok))]
 pub(crate) fn registers_ok(
     state: Nt7508,
     bits: u8,
     count: u8,
     moment: Time,
-    ram: &[u8],
-    icons: &[u8],
+    memory: Memory<'_>,
 ) -> bool
-    ensures { result ≡ registers_ok state bits count moment ram.now icons.now }
+    ensures { result ≡ registers_ok state bits count moment memory.entry.ram.now memory.entry.icons.now }
 {
-    (ram.len() == 4096)
-        & (icons.len() == 256)
-        & moment.in_range()
-        & state.valid()
-        & group_ok(bits, count)
+    memory.fits() & moment.in_range() & state.valid() & group_ok(bits, count)
 }
 
 // The checks of a group of bits.
-#[tactic(auto, using(crate::proofs::Checks::first_none, crate::proofs::Checks::first_first), unfolding(crate::specs::Check::check_group, crate::specs::Check::check_lent, crate::specs::Check::in_order))]
+#[tactic(auto, using(crate::proofs::Checks::group_chain))]
 pub(crate) fn check_group(
     state: Nt7508,
     bits: u8,
     count: u8,
     moment: Time,
-    ram: &[u8],
-    icons: &[u8],
+    memory: Memory<'_>,
 ) -> Result<(), Refusal>
-    ensures { refused result ≡ check_group state bits count moment ram.now icons.now }
+    ensures { refused result ≡ check_group state bits count moment memory.entry.ram.now memory.entry.icons.now }
 {
-    check_lent(state, moment, ram, icons)?;
+    check_lent(state, moment, memory)?;
     if !group_ok(bits, count) {
         return Err(Refusal::Group);
     }
@@ -257,17 +251,12 @@ pub(crate) fn check_group(
 }
 
 // The checks of an image of so many bytes.
-#[tactic(auto, using(crate::proofs::Checks::first_none), unfolding(crate::specs::Check::check_image, crate::specs::Check::in_order, scan::specs::Check::image_ok))]
-pub(crate) fn check_image(
-    state: Nt7508,
-    ram: &[u8],
-    icons: &[u8],
-    bytes: usize,
-) -> Result<(), Refusal>
-    ensures { refused result ≡ check_image state ram.now icons.now bytes }
+#[tactic(auto, using(crate::proofs::Checks::first_none), unfolding(crate::specs::Check::check_image, crate::specs::Check::in_order))]
+pub(crate) fn check_image(state: Nt7508, memory: Memory<'_>, bytes: usize) -> Result<(), Refusal>
+    ensures { refused result ≡ check_image state memory.entry.ram.now memory.entry.icons.now bytes }
 {
-    check_lengths(ram, icons)?;
-    if bytes != 6144 {
+    memory.check()?;
+    if !image_ok(bytes) {
         return Err(Refusal::Image);
     }
     state.check()
@@ -297,15 +286,10 @@ fn restore_ok(scan: Scan, ready: Option<Time>, now: Time) -> bool
 
 // The checks of a state that is restored.
 #[tactic(auto, using(crate::proofs::Checks::first_none), unfolding(crate::specs::Check::check_restore, crate::specs::Check::check_lent, crate::specs::Check::in_order))]
-pub(crate) fn check_restore(
-    state: Nt7508,
-    now: Time,
-    ram: &[u8],
-    icons: &[u8],
-) -> Result<(), Refusal>
-    ensures { refused result ≡ check_restore state now ram.now icons.now }
+pub(crate) fn check_restore(state: Nt7508, now: Time, memory: Memory<'_>) -> Result<(), Refusal>
+    ensures { refused result ≡ check_restore state now memory.entry.ram.now memory.entry.icons.now }
 {
-    check_lent(state, now, ram, icons)?;
+    check_lent(state, now, memory)?;
     if !restore_ok(state.scan, state.power.ready, now) {
         return Err(Refusal::Restore);
     }

@@ -7,14 +7,11 @@ ghost use Rattle.controller.specs.State.{with_serial};
 
 use crate::check::awaits;
 use crate::event::{Event, Stepped, unstored};
-use crate::state::{Address, Nt7508, Power};
+use crate::state::{Address, Nt7508, PALETTE, Power};
 use clock::Time;
 
 // Sets registers of every group again.
 const RESET: u8 = 0xe2;
-
-// The palette at power-on and after a reset.
-const PALETTE: [u8; 8] = [0, 0, 0, 0, 255, 255, 255, 255];
 
 // The display registers after a byte that awaits no parameter.
 #[tactic(auto, unfolding(crate::specs::Command::display_after))]
@@ -100,10 +97,10 @@ pub(crate) fn address_after(address: Address, byte: u8) -> Address
     let mut next = address;
     match byte {
         0x00..=0x0f => {
-            next.column_byte = (address.column_byte / 32 % 8 * 16 + byte as u16) * 2;
+            next.column_byte = (address.column_byte / 32 % 8 * 16 + u16::from(byte)) * 2;
         }
         0x10..=0x17 => {
-            next.column_byte = ((byte % 8) as u16 * 16 + address.column_byte / 2 % 16) * 2;
+            next.column_byte = (u16::from(byte % 8) * 16 + address.column_byte / 2 % 16) * 2;
         }
         0xa3 => next.page = 16,
         0xb0..=0xbf => next.page = byte % 16,
@@ -144,7 +141,7 @@ pub(crate) fn display_with(display: scan::Settings, command: u8, byte: u8) -> sc
         0x44..=0x47 => next.initial_com = byte % 128,
         0x48..=0x4b if is_duty(byte) => next.duty = byte,
         0x4c..=0x4f => next.inversion_lines = lines_of(byte),
-        0x88..=0x8f => next.palette[(command - 0x88) as usize] = byte,
+        0x88..=0x8f => next.palette[usize::from(command - 0x88)] = byte,
         0xf6 => next.oscillator_frequency = byte % 32,
         0xf7 => next.oscillator_control = byte % 4,
         _ => {}

@@ -21,7 +21,7 @@ pub enum Event {
     },
 }
 
-// The byte of RAM or icons that a data byte sets.
+// The byte of RAM or icons that a data byte sets. Two cases, as the two memories are lent apart.
 #[derive(Clone, Copy, Debug, PartialEq, Eq)]
 pub enum Store {
     Ram { at: usize, value: u8 },

@@ -12,7 +12,7 @@ use crate::command::address_after;
 use crate::event::{Event, Store};
 use crate::state::{Address, Nt7508, Serial};
 use clock::Time;
-use scan::{Running, Scan};
+use scan::{Memory, Running, Scan};
 
 // What a byte of the fast path leaves: the scan and the address after it, its event, and the byte that is
 // to be stored, if any.
@@ -70,10 +70,10 @@ fn fast_step(scan: Scan, serial: Serial, address: Address, byte: u8, now: Time) 
 
 // The registers of a byte pass, it is whole, and it keeps them.
 #[tactic(auto, unfolding(crate::specs::Fast::registers_stay))]
-fn registers_stay(state: Nt7508, byte: u8, moment: Time, ram: &[u8], icons: &[u8]) -> bool
-    ensures { result ≡ registers_stay state byte moment ram.now icons.now }
+fn registers_stay(state: Nt7508, byte: u8, moment: Time, memory: Memory<'_>) -> bool
+    ensures { result ≡ registers_stay state byte moment memory.entry.ram.now memory.entry.icons.now }
 {
-    registers_ok(state, byte, 8, moment, ram, icons)
+    registers_ok(state, byte, 8, moment, memory)
         & completes(state, 8)
         & (state.serial.bits == 0)
         & keeps(state.serial, byte)
@@ -81,10 +81,10 @@ fn registers_stay(state: Nt7508, byte: u8, moment: Time, ram: &[u8], icons: &[u8
 
 impl Nt7508 {
     // A byte by the fast path; none, where it does not take it. It reads lent memory and writes none.
-    fn fast_take(self, byte: u8, moment: Time, ram: &[u8], icons: &[u8]) -> Option<FastStep>
-        ensures { result ≡ fast_step self byte moment ram.now icons.now }
+    fn fast_take(self, byte: u8, moment: Time, memory: Memory<'_>) -> Option<FastStep>
+        ensures { result ≡ fast_step self byte moment memory.entry.ram.now memory.entry.icons.now }
     {
-        if !registers_stay(self, byte, moment, ram, icons) {
+        if !registers_stay(self, byte, moment, memory) {
             return None;
         }
         let runs = conditions_of(self.power).runs();
@@ -93,13 +93,13 @@ impl Nt7508 {
             moment,
             page_sent(self),
             Running::after(runs, runs),
-            ram,
-            icons,
+            memory,
         )?;
         Some(fast_step(scan, self.serial, self.address, byte, moment))
     }
 
-    // A byte by the fast path, eight rising edges at once, and what it stores; nothing is done with another.
+    // A byte by the fast path, eight rising edges at once, and what it stores; nothing is done with another. Memory
+    // is written, and stays two slices, as `keep` of bits.rt says.
     pub fn fast_byte(
         self,
         byte: u8,
@@ -111,7 +111,7 @@ impl Nt7508 {
         ensures ram { ram.new ≡ ram_after (stored result) ram.old }
         ensures icons { icons.new ≡ icons_after (stored result) icons.old }
     {
-        let step = self.fast_take(byte, moment, ram, icons)?;
+        let step = self.fast_take(byte, moment, Memory { ram, icons })?;
         keep(step.store, ram, icons);
         Some(step)
     }

@@ -7,8 +7,9 @@ ghost use Rattle.controller.specs.Look.{answered_voltages, voltages_of, answered
 use crate::byte::conditions_of;
 use crate::check::{Refusal, check_but_scan, check_image, check_restore};
 use crate::state::{Nt7508, Serial};
+use checks::Check;
 use clock::Time;
-use scan::Driven;
+use scan::{Driven, Memory};
 use voltage::LcdVoltages;
 use voltage::finder::Pair;
 
@@ -39,10 +40,10 @@ impl Nt7508 {
     }
 
     // The drive at a moment, and the frame length of the scan shown.
-    pub fn drive(self, moment: Time, ram: &[u8], icons: &[u8]) -> Result<Driven, Refusal>
-        ensures { answered_drive result ≡ drive_of self moment ram.now icons.now }
+    pub fn drive(self, moment: Time, memory: Memory<'_>) -> Result<Driven, Refusal>
+        ensures { answered_drive result ≡ drive_of self moment memory.entry.ram.now memory.entry.icons.now }
     {
-        check_but_scan(self, moment, ram, icons)?;
+        check_but_scan(self, moment, memory)?;
         // The scan's own call checks the scan.
         let driven = scan::drive::drive(
             self.scan,
@@ -50,19 +51,18 @@ impl Nt7508 {
             self.analog,
             conditions_of(self.power),
             moment,
-            ram,
-            icons,
+            memory,
         )?;
         Ok(driven)
     }
 
     // The gray image of the glass, in 6,144 lent bytes.
-    pub fn render(self, ram: &[u8], icons: &[u8], pixels: &mut [u8]) -> Result<(), Refusal>
-        ensures { painted result pixels.new ≡ render_of self ram.now icons.now pixels.old }
+    pub fn render(self, memory: Memory<'_>, pixels: &mut [u8]) -> Result<(), Refusal>
+        ensures { painted result pixels.new ≡ render_of self memory.entry.ram.now memory.entry.icons.now pixels.old }
     {
-        check_image(self, ram, icons, pixels.len())?;
+        check_image(self, memory, pixels.len())?;
         let driven = conditions_of(self.power).driven();
-        scan::render(self.display, driven, ram, icons, pixels)?;
+        scan::render(self.display, driven, memory, pixels)?;
         Ok(())
     }
 
@@ -96,10 +96,10 @@ impl Nt7508 {
 
     // A state that was saved elsewhere, with its RAM and icons: handed back if no check turns it down.
     #[tactic(auto, unfolding(crate::specs::Look::restore))]
-    pub fn restore(self, moment: Time, ram: &[u8], icons: &[u8]) -> Result<Self, Refusal>
-        ensures { answered self result ≡ restore_of self moment ram.now icons.now }
+    pub fn restore(self, moment: Time, memory: Memory<'_>) -> Result<Self, Refusal>
+        ensures { answered self result ≡ restore_of self moment memory.entry.ram.now memory.entry.icons.now }
     {
-        check_restore(self, moment, ram, icons)?;
+        check_restore(self, moment, memory)?;
         Ok(self)
     }
 }

@@ -6,6 +6,9 @@ ghost use Rattle.controller.specs.State.{power_on, with_scan};
 use clock::Time;
 use scan::Scan;
 
+// The palette at power-on and after a reset.
+pub(crate) const PALETTE: [u8; 8] = [0, 0, 0, 0, 255, 255, 255, 255];
+
 // The serial line: whether it is selected and carries data, the bits of the byte under way, and a
 // command byte that awaits its parameter.
 #[derive(Clone, Copy, Debug, PartialEq, Eq)]
@@ -67,7 +70,7 @@ impl Nt7508 {
                 duty: 128,
                 inversion_lines: 0,
                 gray_mode: 0,
-                palette: [0, 0, 0, 0, 255, 255, 255, 255],
+                palette: PALETTE,
                 oscillator_control: 0,
                 oscillator_frequency: 0,
             },

@@ -1,13 +1,15 @@
 // Selecting, the data line, supply, temperature, the start-up wait and the loss of memory.
 ghost use Rattle.std.specs.Prelude.{◌≡◌, ◌+◌, true, None};
-ghost use Rattle.clock.specs.Time.{raw, time_of, micros_raw, in_range};
-ghost use Rattle.controller.specs.Check.{answered, supplied_at, check_moment};
+ghost use Rattle.clock.specs.Time.{raw, time_of, micros_raw};
+ghost use Rattle.controller.specs.Check.{answered};
 ghost use Rattle.controller.specs.Supply.{selected_as, fallen as fallen_of, chilled as chilled_of, cold_risen, warm_risen, risen as risen_of, switched as switched_of, railed as railed_of, deadline_met, select as select_of, command_data, set_temperature, set_supply, at_deadline, lost_by, lose_volatile};
 
 use crate::byte::conditions_of;
-use crate::check::{Refusal, check_memory, check_moment};
+use crate::check::{Refusal, check_memory, check_moment, supplied_at};
 use crate::state::{Nt7508, Power, Serial, with_scan};
+use checks::{Check, Checked};
 use clock::{Duration, Time};
+use scan::Memory;
 
 // The start-up wait after a cold rise, in microseconds.
 const WAIT: u64 = 21;
@@ -26,20 +28,15 @@ fn selected_as(serial: Serial, on: bool) -> Serial
     next
 }
 
-fn supplied_at(millivolts: u16) -> bool
-    ensures { result ≡ supplied_at millivolts }
+// A fall counts the scan, stops its clock, deselects and drops the wait.
+fn fallen(state: Checked<Nt7508>, now: Checked<Time>) -> Nt7508
+    ensures { result ≡ fallen_of state.value now.value }
 {
-    1650 <= millivolts
-}
-
-// A fall counts the scan, stops its clock, deselects and drops the wait. The checks have been made.
-fn fallen(state: Nt7508, now: Time) -> Nt7508
-    requires { check_moment state now ≡ None }
-    ensures { result ≡ fallen_of state now }
-{
-    let mut next = with_scan(state, state.scan.fall(state.display, now).unwrap());
+    let display = state.value.display;
+    let scan = state.value.scan.fall(display, now.value).unwrap();
+    let mut next = with_scan(state.value, scan);
     next.power.ready = None;
-    next.serial = selected_as(state.serial, false);
+    next.serial = selected_as(state.value.serial, false);
     next
 }
 
@@ -54,17 +51,15 @@ fn chilled(state: Nt7508, millivolts: u16) -> Nt7508
 }
 
 // The end of the wait. A time in range is far from overflow.
-fn wait_end(now: Time) -> Time
-    requires { in_range now ≡ true }
-    ensures { result ≡ time_of (raw now + micros_raw 21) }
+fn wait_end(now: Checked<Time>) -> Time
+    ensures { result ≡ time_of (raw now.value + micros_raw 21) }
 {
-    now.checked_add(Duration::from_micros(WAIT)).unwrap()
+    now.value.checked_add(Duration::from_micros(WAIT)).unwrap()
 }
 
 // A cold rise returns to power-on settings, keeps the temperature, stays cold and waits.
-fn cold_risen(state: Nt7508, now: Time) -> Nt7508
-    requires { in_range now ≡ true }
-    ensures { result ≡ cold_risen state now }
+fn cold_risen(state: Nt7508, now: Checked<Time>) -> Nt7508
+    ensures { result ≡ cold_risen state now.value }
 {
     let mut first = Nt7508::new();
     first.power.temperature_millicelsius = state.power.temperature_millicelsius;
@@ -73,46 +68,46 @@ fn cold_risen(state: Nt7508, now: Time) -> Nt7508
     first
 }
 
-// A warm rise keeps settings and updates the clock. The checks have been made.
-fn warm_risen(state: Nt7508, now: Time) -> Nt7508
-    requires { check_moment state now ≡ None }
-    ensures { result ≡ warm_risen state now }
+// A warm rise keeps settings and updates the clock.
+fn warm_risen(state: Checked<Nt7508>, now: Checked<Time>) -> Nt7508
+    ensures { result ≡ warm_risen state.value now.value }
 {
-    let runs = conditions_of(state.power).runs();
-    with_scan(state, state.scan.rise(state.display, now, runs).unwrap())
+    let display = state.value.display;
+    let runs = conditions_of(state.value.power).runs();
+    let scan = state.value.scan.rise(display, now.value, runs).unwrap();
+    with_scan(state.value, scan)
 }
 
 #[tactic(auto, unfolding(crate::specs::Supply::risen))]
-fn risen(state: Nt7508, now: Time) -> Nt7508
-    requires { check_moment state now ≡ None }
-    ensures { result ≡ risen_of state now }
+fn risen(state: Checked<Nt7508>, now: Checked<Time>) -> Nt7508
+    ensures { result ≡ risen_of state.value now.value }
 {
-    if state.power.cold {
-        return cold_risen(state, now);
+    if state.value.power.cold {
+        return cold_risen(state.value, now);
     }
     warm_risen(state, now)
 }
 
 // A fall where the supply ceases, cold at 0, a rise where it returns. The supply itself is not set yet.
-fn switched(state: Nt7508, millivolts: u16, now: Time) -> Nt7508
-    requires { check_moment state now ≡ None }
-    ensures { result ≡ switched_of state millivolts now }
+fn switched(state: Checked<Nt7508>, millivolts: u16, now: Checked<Time>) -> Nt7508
+    ensures { result ≡ switched_of state.value millivolts now.value }
 {
     let on = supplied_at(millivolts);
-    if state.power.supplied & !on {
+    let supplied = state.value.power.supplied;
+    if supplied & !on {
         return chilled(fallen(state, now), millivolts);
     }
-    if on & !state.power.supplied {
-        return risen(chilled(state, millivolts), now);
+    if on & !supplied {
+        let value = chilled(state.value, millivolts);
+        return risen(Checked { value }, now);
     }
-    chilled(state, millivolts)
+    chilled(state.value, millivolts)
 }
 
 // The supply set, with what a fall or a rise does.
 #[tactic(auto, unfolding(crate::specs::Supply::railed, crate::specs::State::with_power))]
-fn railed(state: Nt7508, millivolts: u16, now: Time) -> Nt7508
-    requires { check_moment state now ≡ None }
-    ensures { result ≡ railed_of state millivolts now }
+fn railed(state: Checked<Nt7508>, millivolts: u16, now: Checked<Time>) -> Nt7508
+    ensures { result ≡ railed_of state.value millivolts now.value }
 {
     let mut next = switched(state, millivolts, now);
     next.power.supplied = supplied_at(millivolts);
@@ -140,7 +135,7 @@ impl Nt7508 {
         ensures { answered self result ≡ set_supply self millivolts now }
     {
         check_moment(self, now)?;
-        Ok(railed(self, millivolts, now))
+        Ok(railed(Checked { value: self }, millivolts, Checked { value: now }))
     }
 
     // The deadline call, which ends the wait at its exact time.
@@ -187,12 +182,13 @@ impl Nt7508 {
         Ok(next)
     }
 
-    // The loss of memory: RAM and icons all 0, and cold.
+    // The loss of memory: RAM and icons all 0, and cold. The two are written, and stay apart, as `keep` of bits.rt
+    // says.
     #[tactic(auto, unfolding(crate::specs::Supply::lose_volatile, crate::specs::State::with_power, crate::specs::Supply::zeros))]
     pub fn lose_volatile(self, ram: &mut [u8], icons: &mut [u8]) -> Result<Self, Refusal>
         ensures { lost_by self result ram.new icons.new ≡ lose_volatile self ram.old icons.old }
     {
-        check_memory(self, ram, icons)?;
+        check_memory(self, Memory { ram, icons })?;
         ram.fill(0);
         icons.fill(0);
         let mut next = self;

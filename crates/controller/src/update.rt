@@ -2,7 +2,7 @@
 ghost use Rattle.std.specs.Prelude.{◌≡◌};
 ghost use Rattle.controller.specs.Update.{answered_update, update as update_of};
 
-use crate::check::{Refusal, check_moment};
+use crate::check::{Refusal, check_registers};
 use crate::state::{Nt7508, with_scan};
 use clock::Time;
 
@@ -15,11 +15,11 @@ pub struct Updated {
 
 impl Nt7508 {
     // Counts the scan to a moment for good. No other call answers otherwise for it.
-    #[tactic(auto, unfolding(crate::specs::Update::update))]
     pub fn update(self, now: Time) -> Result<Updated, Refusal>
         ensures { answered_update self result ≡ update_of self now }
     {
-        check_moment(self, now)?;
+        check_registers(self, now)?;
+        // The scan's own call checks the scan.
         let counted = self.scan.count_to(self.display, now)?;
         Ok(Updated {
             state: with_scan(self, counted.scan),

@@ -10,10 +10,10 @@ use borrow.Author.Tests.{ltb-true}
 use Rattle.std.proofs.lemmas.Option.{none-some}
 use Rattle.checks.proofs.Tests.{both}
 use Rattle.std.specs.Prelude.{Option, Some, None}
-use Rattle.decimal.specs.declared.Read.{Read}
+use Rattle.decimal.specs.Decimal.{Read}
 use Rattle.decimal.specs.Decimal.{is_digit, digits, spelt, well_formed, number_at, ended_by, field_at}
 
-digits_within : (l : List ℕ) → digits l ≤ length l
+pub digits_within : (l : List ℕ) → digits l ≤ length l
 unfolding digits
 digits_within [] = omega arith
 digits_within (b ∷ l) = go (is_digit b) (digits_within l)

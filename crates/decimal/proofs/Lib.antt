@@ -3,3 +3,4 @@ mod Laws
 pub mod Ends
 pub mod Printing
 pub mod ReadBack
+pub mod Rests

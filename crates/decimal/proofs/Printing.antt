@@ -1,7 +1,7 @@
 -- Bytes put one behind another, and the digits of a number one by one.
 use Prim.Native.Nat.{ℕ, zero, suc, ◌+◌, ◌/◌, ◌%◌, ◌^◌, ◌≤◌, ◌<◌}
 use mathlib.Core.Bool.{Bool, true, false, cond}
-use mathlib.Core.List.{List, [], ◌∷◌, ◌++◌}
+use mathlib.Core.List.{List, [], ◌∷◌, ◌++◌, append_assoc, append-nil}
 use mathlib.Core.Path.{◌≡◌, refl, sym, ◌∙◌, ap}
 use native.Mathlib.Nat.{add-zero, pow-suc, div-lt_iff_lt-mul, mod-eq_of_lt, zero-lt-suc}
 use native.Mathlib.Numerals.{add-one}
@@ -9,7 +9,9 @@ use native.Mathlib.Omega.{arith}
 use lib.Dec.{ltb}
 use lib.ListN.{length, get_or, take, drop, set, length-set, length-append, drop_of_length-le}
 use lib.Seq.{drop-cons, sets, sets-eq}
-use borrow.Author.Tests.{ltb-true, ltb-false, lt-ltb, le-ltb}
+use borrow.Author.Tests.{ltb-true, ltb-false, lt-ltb, le-ltb, ne_eqb}
+use Rattle.std.specs.Fmt.{digit_glyph, digits_onto}
+use Rattle.std.specs.Fmt as fmt
 use Rattle.decimal.specs.Print.{digits_up_to, decimal, put_byte, put}
 
 pub put_append : (p : List ℕ × ℕ) (a b : List ℕ) → put p (a ++ b) ≡ put (put p a) b
@@ -111,6 +113,36 @@ module _ (p : List ℕ × ℕ) (n : ℕ) where
       sym (put_one (put p (decimal (n / 10))) (48 + n % 10))
       ∙ sym (put_append p (decimal (n / 10)) ((48 + n % 10) ∷ []))
       ∙ ap (put p) (sym (decimal_more n h fits))
+
+-- the digits that the library prints are these
+module _ where
+  glyph : (d : ℕ) → d < 10 → digit_glyph false d ≡ 48 + d
+  glyph d h = rw (lt-ltb d 10 h)
+
+  onto_lem : (k m n : ℕ) (acc : List ℕ) → n < 10 ^ suc k → suc k ≤ m → digits_onto m 10 false n acc ≡ digits_up_to k n ++ acc
+  unfolding digits_up_to
+  onto_lem k zero n acc h enough = absurd (omega arith)
+  onto_lem zero (suc m) n acc h enough =
+      let none : n / 10 ≡ 0 = omega arith in
+      rw (none, glyph (n % 10) (omega arith))
+  onto_lem (suc k) (suc m) n acc h enough =
+      go (ltb n 10) refl (onto_lem k m (n / 10) ((48 + n % 10) ∷ acc) ((div-lt_iff_lt-mul (zero-lt-suc 9)).1 (rw (← pow-suc 10 (suc k)) h)) (omega arith))
+    where
+      go :
+          (t : Bool) → ltb n 10 ≡ t → digits_onto m 10 false (n / 10) ((48 + n % 10) ∷ acc) ≡ digits_up_to k (n / 10) ++ ((48 + n % 10) ∷ acc)
+          → digits_onto (suc m) 10 false n acc ≡ cond t ((48 + n) ∷ []) (digits_up_to k (n / 10) ++ ((48 + n % 10) ∷ [])) ++ acc
+      go true e on =
+          let small : n < 10 = ltb-true n 10 e in
+          let none : n / 10 ≡ 0 = omega arith in
+          let same : n % 10 ≡ n = omega arith in
+          rw (none, same, glyph n small)
+      go false e on =
+          let large : 10 ≤ n = ltb-false n 10 e in
+          rw (ne_eqb (n / 10) 0 (λ h. omega (arith, h, large)), glyph (n % 10) (omega arith)) (on ∙ sym (append_assoc (digits_up_to k (n / 10)) ((48 + n % 10) ∷ []) acc))
+
+pub printed : (n : ℕ) → n < 2 ^ 64 → fmt.decimal n ≡ decimal n
+unfolding decimal fmt.digits
+printed n fits = onto_lem 19 64 n [] (omega arith) (omega arith) ∙ append-nil (digits_up_to 19 n)
 
 -- a number has no more digits than that
 digits_few : (k n : ℕ) → length (digits_up_to k n) ≤ suc k

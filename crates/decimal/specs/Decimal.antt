@@ -1,7 +1,11 @@
 -- Decimals of a text, which is a list of bytes. Document 01, 'Session program': decimals have no leading zero; one space
 -- between two, and a newline after the last of a line.
 use Rattle.std.specs.Prelude.{ℕ, zero, suc, ◌+◌, ◌-◌, ◌*◌, ◌^◌, Bool, cond, not, ◌&&◌, ◌||◌, List, [], ◌∷◌, leb, ltb, eqb, length, get_or, drop, set, Option, Some, None}
-use Rattle.decimal.specs.declared.Read.{Read}
+
+-- a number that was read, and the place after it
+pub record Read : Type 0 where
+  pub value : ℕ
+  pub next : ℕ
 
 -- the digits 0 to 9
 abbrev pub is_digit : ℕ → Bool

@@ -1,70 +1,67 @@
-// Reads unsigned decimals out of a text: digits with no leading zero, in 64 bits. A line of them has
-// one space between two and a newline after the last. A place in the text is an index. `print` puts
-// them into lent bytes.
+// Reads unsigned decimals at the start of a text: digits with no leading zero, in 64 bits. A line of
+// them has one space between two and a newline after the last. What follows is given as the rest of
+// the text. `print` puts decimals into lent bytes.
 #![tactic(auto)]
 
-ghost use Rattle.std.specs.Prelude.{◌≡◌, length, get_or};
-ghost use Rattle.decimal.specs.Decimal.{is_digit, number_of, number_at, field_at, separator, line_at};
+ghost use Rattle.std.specs.Prelude.{◌≡◌, ◌+◌, ◌≤◌, length, IfSome};
+ghost use Rattle.decimal.specs.Decimal.{separator};
+ghost use Rattle.decimal.specs.Rest.{read_view, rest_view, digit_in, decimal_of, number_in, field_in, line_in};
 
 mod print;
 
 pub use print::{put_byte, put_bytes, put_number};
 
-// A number that was read, and the place after it.
+// A number that was read, and what follows it.
 #[derive(Clone, Copy, Debug, PartialEq, Eq)]
-pub struct Read {
+pub struct Read<'a> {
     pub value: u64,
-    pub next: usize,
+    pub rest: &'a [u8],
 }
 
-// The byte at a place, or 0 beyond the end.
-fn byte_at(s: &[u8], at: usize) -> u8
-    ensures { result ≡ get_or s.now at 0 }
+// The digit at the start of a text, and what follows it.
+fn digit(text: &[u8]) -> Option<Read<'_>>
+    ensures { read_view result ≡ digit_in text.now }
 {
-    s.get(at).copied().unwrap_or(0)
+    let (&byte, rest) = text.split_first()?;
+    if !byte.is_ascii_digit() {
+        return None;
+    }
+    Some(Read {
+        value: u64::from(byte - b'0'),
+        rest,
+    })
 }
 
-fn is_digit(byte: u8) -> bool
-    ensures { result ≡ is_digit byte }
+// What these digits spell, if they are a decimal.
+fn decimal_of<'a>(digits: &[u8], value: u64, rest: &'a [u8]) -> Option<Read<'a>>
+    ensures { read_view result ≡ decimal_of digits.now value rest.now }
 {
-    byte.is_ascii_digit()
+    match digits {
+        [] | [b'0', _, ..] => None,
+        _ => Some(Read { value, rest }),
+    }
 }
 
-// The number that so many digits with this first one spell, if they are a decimal.
-fn number_of(first: u8, count: usize, value: u64, next: usize) -> Option<Read>
-    ensures { result ≡ number_of first count value next }
-{
-    ((0 < count) & ((first != 48) | (count == 1))).then_some(Read { value, next })
-}
-
-// The number at a place: the digits from there on, as many as there are.
-pub fn number(s: &[u8], at: usize) -> Option<Read>
-    ensures { result ≡ number_at s.now at }
+// The number at the start of a text: its digits, as many as there are.
+pub fn number(text: &[u8]) -> Option<Read<'_>>
+    ensures { read_view result ≡ number_in text.now }
 {
     let mut value: u64 = 0;
-    let mut i = at;
-    loop {
-        let byte = byte_at(s, i);
-        if !is_digit(byte) {
-            return number_of(byte_at(s, at), i - at, value, i);
-        }
-        value = value.checked_mul(10)?.checked_add(u64::from(byte - 48))?;
-        i += 1;
+    let mut rest = text;
+    while let Some(next) = digit(rest) {
+        value = value.checked_mul(10)?.checked_add(next.value)?;
+        rest = next.rest;
     }
+    decimal_of(&text[..text.len() - rest.len()], value, rest)
 }
 
-// A number with a certain byte after it, and the place after that.
-pub fn field(s: &[u8], at: usize, end: u8) -> Option<Read>
-    ensures { result ≡ field_at s.now at end }
+// A number with a certain byte after it, and what follows that.
+pub fn field(text: &[u8], end: u8) -> Option<Read<'_>>
+    ensures { read_view result ≡ field_in text.now end }
 {
-    let Read { value, next } = number(s, at)?;
-    if (next < s.len()) & (byte_at(s, next) == end) {
-        return Some(Read {
-            value,
-            next: next + 1,
-        });
-    }
-    None
+    let Read { value, rest } = number(text)?;
+    let (&byte, rest) = rest.split_first()?;
+    (byte == end).then_some(Read { value, rest })
 }
 
 // The byte behind a number that has so many behind it: a newline after the last, else a space.
@@ -74,17 +71,17 @@ fn byte_after(left: usize) -> u8
     if left == 0 { b'\n' } else { b' ' }
 }
 
-// Reads the numbers of a line, as many as `out` has words.
-pub fn read_line(s: &[u8], start: usize, out: &mut [u64]) -> Option<usize>
-    ensures { (result, out.new) ≡ line_at (length out.old) s.now start 0 out.old }
+// Reads the numbers of a line, as many as `out` has words, and gives what follows the line.
+pub fn read_line<'a>(text: &'a [u8], out: &mut [u64]) -> Option<&'a [u8]>
+    ensures line { (rest_view result, out.new) ≡ line_in text.now out.old }
+    ensures within { IfSome result (λ rest. length rest.now + length out.old ≤ length text.now) }
 {
-    let mut at = start;
-    let mut left = out.len();
-    for word in out.iter_mut() {
-        left -= 1;
-        let number = field(s, at, byte_after(left))?;
+    let mut rest = text;
+    let count = out.len();
+    for (i, word) in out.iter_mut().enumerate() {
+        let number = field(rest, byte_after(count - 1 - i))?;
         *word = number.value;
-        at = number.next;
+        rest = number.rest;
     }
-    Some(at)
+    Some(rest)
 }

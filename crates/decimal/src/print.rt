@@ -1,7 +1,12 @@
 // Prints bytes and unsigned decimals into lent bytes. What is behind their end is left out; a place
 // never passes that end.
+//
+// The bytes and the place in them stand side by side. In a struct of both, a clause would speak of
+// `writer.exit.out.now`, and each function that takes it would state besides that it keeps its reference.
 ghost use Rattle.std.specs.Prelude.{◌≡◌};
 ghost use Rattle.decimal.specs.Print.{decimal, put_byte, put};
+
+use itoa::Buffer;
 
 // Puts a byte at a place, and answers the place behind it.
 pub fn put_byte(out: &mut [u8], at: usize, byte: u8) -> usize
@@ -29,9 +34,6 @@ pub fn put_bytes(out: &mut [u8], at: usize, bytes: &[u8]) -> usize
 pub fn put_number(out: &mut [u8], at: usize, n: u64) -> usize
     ensures { (out.new, result) ≡ put (out.old, at) (decimal n) }
 {
-    if n < 10 {
-        return put_byte(out, at, (48 + n) as u8);
-    }
-    let next = put_number(out, at, n / 10);
-    put_byte(out, next, (48 + n % 10) as u8)
+    let mut digits = Buffer::new();
+    put_bytes(out, at, digits.format(n).as_bytes())
 }

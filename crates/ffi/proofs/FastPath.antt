@@ -15,7 +15,6 @@ use Rattle.controller.specs.Byte.{waiting}
 use Rattle.controller.specs.Bits.{Outcome, taking, shift_in}
 use Rattle.controller.specs.Closed.{completes}
 use Rattle.controller.specs.Fast.{registers_stay, is_fast_byte, fast_step, stored}
-use Rattle.controller.specs.declared.event.Store.{Store}
 use Rattle.controller.specs.declared.state.Serial.{Serial}
 use Rattle.controller.specs.declared.state.Address.{Address}
 use Rattle.controller.specs.declared.state.Power.{Power}

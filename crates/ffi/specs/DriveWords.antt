@@ -1,11 +1,11 @@
 -- Conditions, drives and the levels of electrodes as words.
 use Rattle.std.specs.Prelude.{ℕ, ◌%◌, ◌^◌, Bool, cond, List, [], ◌∷◌, ℤ, ltb, get_or, Option, Some, None, Result, Ok, Err}
 use mir.Val.{bool_byte}
+use Rattle.clock.specs.declared.time.Time.{Time}
 use Rattle.scan.specs.declared.drive.Conditions.{Conditions}
 use Rattle.scan.specs.declared.drive.Driven.{Driven}
 use Rattle.scan.specs.declared.drive.LcdDrive.{LcdDrive}
 use Rattle.scan.specs.Drive.{off, drive_scan}
-use Rattle.ffi.specs.ClockWords.{time}
 use Rattle.ffi.specs.VoltageWords.{supply_of, voltage_words}
 use Rattle.ffi.specs.ScanWords.{flag, settings_of, scan_of}
 use Rattle.ffi.specs.VoltageWords as volts
@@ -74,6 +74,6 @@ driven_by number (Ok d) = (None, (d.drive, d.frame))
 driven_by number (Err why) = (Some (number why), (off, 0))
 
 -- the answer of the drive call, from what is lent
-abbrev pub driven_of : (words bytes settings analog : List ℕ) → Conditions → (seconds fraction : ℕ) → (ram icons : List ℕ) → Option ℕ × (LcdDrive × ℕ)
-driven_of words bytes settings analog conditions seconds fraction ram icons =
-    drive_scan (scan_of words bytes) (settings_of settings) (volts.settings_of analog) conditions (time seconds fraction) ram icons
+abbrev pub driven_of : (words bytes settings analog : List ℕ) → Conditions → (moment : Time) → (ram icons : List ℕ) → Option ℕ × (LcdDrive × ℕ)
+driven_of words bytes settings analog conditions moment ram icons =
+    drive_scan (scan_of words bytes) (settings_of settings) (volts.settings_of analog) conditions moment ram icons

@@ -2,12 +2,13 @@
 use Rattle.std.specs.Prelude.{ℕ, Bool, cond, not, List, [], ◌∷◌, eqb, get_or, Option, Some, None}
 use Rattle.std.specs.Bool.{then_some}
 use mir.Val.{bool_byte}
+use Rattle.clock.specs.declared.time.Time.{Time}
 use Rattle.clock.specs.declared.edges.Clock.{Clock}
 use Rattle.scan.specs.declared.settings.Settings.{Settings}
 use Rattle.scan.specs.declared.state.Scan.{Scan}
 use Rattle.scan.specs.Count.{count_scan}
 use Rattle.scan.specs.Run.{running_after, before_byte, after_byte, fall_scan}
-use Rattle.ffi.specs.ClockWords.{clock_of, clock_words, rate, time}
+use Rattle.ffi.specs.ClockWords.{clock_of, clock_words, rate}
 
 -- any number but 0 says yes
 abbrev pub flag : ℕ → Bool
@@ -102,16 +103,16 @@ scan_bytes x =
     ∷ []
 
 -- the answers of the scan's calls, from what is lent
-abbrev pub counted_of : (words bytes settings : List ℕ) → (seconds fraction : ℕ) → Option ℕ × (Scan × ℕ)
-counted_of words bytes settings seconds fraction = count_scan (scan_of words bytes) (settings_of settings) (time seconds fraction)
+abbrev pub counted_of : (words bytes settings : List ℕ) → (moment : Time) → Option ℕ × (Scan × ℕ)
+counted_of words bytes settings moment = count_scan (scan_of words bytes) (settings_of settings) moment
 
-abbrev pub before_of : (words bytes settings : List ℕ) → (seconds fraction : ℕ) → (sent : Bool) → (page : ℕ) → (ram icons : List ℕ) → Option ℕ × Scan
-before_of words bytes settings seconds fraction sent page ram icons =
-    before_byte (scan_of words bytes) (settings_of settings) (time seconds fraction) (then_some sent page) ram icons
+abbrev pub before_of : (words bytes settings : List ℕ) → (moment : Time) → (sent : Bool) → (page : ℕ) → (ram icons : List ℕ) → Option ℕ × Scan
+before_of words bytes settings moment sent page ram icons =
+    before_byte (scan_of words bytes) (settings_of settings) moment (then_some sent page) ram icons
 
-abbrev pub after_of : (words bytes settings : List ℕ) → (seconds fraction : ℕ) → (was_running running : Bool) → (ram icons : List ℕ) → Option ℕ × Scan
-after_of words bytes settings seconds fraction was_running running ram icons =
-    after_byte (scan_of words bytes) (settings_of settings) (time seconds fraction) (running_after was_running running) ram icons
+abbrev pub after_of : (words bytes settings : List ℕ) → (moment : Time) → (was_running running : Bool) → (ram icons : List ℕ) → Option ℕ × Scan
+after_of words bytes settings moment was_running running ram icons =
+    after_byte (scan_of words bytes) (settings_of settings) moment (running_after was_running running) ram icons
 
-abbrev pub fallen_of : (words bytes settings : List ℕ) → (seconds fraction : ℕ) → Option ℕ × Scan
-fallen_of words bytes settings seconds fraction = fall_scan (scan_of words bytes) (settings_of settings) (time seconds fraction)
+abbrev pub fallen_of : (words bytes settings : List ℕ) → (moment : Time) → Option ℕ × Scan
+fallen_of words bytes settings moment = fall_scan (scan_of words bytes) (settings_of settings) moment

@@ -1,11 +1,11 @@
-// The clock over words. A time is two words, seconds and fraction, and a rate p / q. A clock is
-// eight: its last edge, its period (two words and a remainder), denominator, fraction and ordinal.
+// The clock over words. A clock is eight words: its last edge (seconds and fraction), its period (two words and a
+// remainder), denominator, fraction and ordinal.
 ghost use Rattle.std.specs.Prelude.{◌≡◌};
 ghost use Rattle.clock.specs.Time.{time_of, micros_raw};
 ghost use Rattle.clock.specs.Check.{check_clock};
 ghost use Rattle.clock.specs.Edges.{new_clock, count_edges, move_clock, pass_edges};
 ghost use Rattle.ffi.specs.Words.{status, check_status, stored};
-ghost use Rattle.ffi.specs.ClockWords.{time_words, deadline_words, time, rate, clock_of, clock_words, passed_count, passed_words};
+ghost use Rattle.ffi.specs.ClockWords.{time_words, deadline_words, clock_of, clock_words, passed_count, passed_words};
 
 use crate::words::{Words, put, status};
 use checks::Numbered;
@@ -80,82 +80,50 @@ pub fn nt7508_time_from_micros(us: u64, out: &mut [u64; 2])
     *out = Time::from_micros(us).words();
 }
 
-// A clock of p / q edges a second that starts at a time.
-pub fn nt7508_clock_new(seconds: u64, fraction: u64, p: u64, q: u64, out: &mut [u64; 8]) -> u64
-    ensures answers { result ≡ status (new_clock (time seconds fraction) (rate p q)) }
-    ensures leaves { out.new ≡ stored clock_words (new_clock (time seconds fraction) (rate p q)) out.old }
+// A clock of a rate that starts at a time.
+pub fn nt7508_clock_new(at: Time, rate: Rate, out: &mut [u64; 8]) -> u64
+    ensures answers { result ≡ status (new_clock at rate) }
+    ensures leaves { out.new ≡ stored clock_words (new_clock at rate) out.old }
 {
-    let at = Time { seconds, fraction };
-    let rate = Rate {
-        numerator: p,
-        denominator: q,
-    };
     put(Clock::new(at, rate), out)
 }
 
 // Whether a clock passes the checks of its rate.
-pub fn nt7508_clock_check(clock: &[u64; 8], p: u64, q: u64) -> u64
-    ensures { result ≡ check_status (check_clock (clock_of clock.now) (rate p q)) }
+pub fn nt7508_clock_check(clock: &[u64; 8], rate: Rate) -> u64
+    ensures { result ≡ check_status (check_clock (clock_of clock.now) rate) }
 {
-    let rate = Rate {
-        numerator: p,
-        denominator: q,
-    };
     status(clock_of(clock).check(rate))
 }
 
 // How many edges stand after the clock's last one and not later than a moment.
-pub fn nt7508_clock_edges_to(
-    clock: &[u64; 8],
-    p: u64,
-    q: u64,
-    seconds: u64,
-    fraction: u64,
-    out: &mut u64,
-) -> u64
-    ensures answers { result ≡ status (count_edges (clock_of clock.now) (rate p q) (time seconds fraction)) }
-    ensures leaves { out.new ≡ stored (λ n. n) (count_edges (clock_of clock.now) (rate p q) (time seconds fraction)) out.old }
+pub fn nt7508_clock_edges_to(clock: &[u64; 8], rate: Rate, moment: Time, out: &mut u64) -> u64
+    ensures answers { result ≡ status (count_edges (clock_of clock.now) rate moment) }
+    ensures leaves { out.new ≡ stored (λ n. n) (count_edges (clock_of clock.now) rate moment) out.old }
 {
-    let rate = Rate {
-        numerator: p,
-        denominator: q,
-    };
-    let now = Time { seconds, fraction };
-    put(clock_of(clock).edges_to(rate, now), out)
+    put(clock_of(clock).edges_to(rate, moment), out)
 }
 
 // The clock moved forward by edges, in place.
-pub fn nt7508_clock_moved(clock: &mut [u64; 8], p: u64, q: u64, edges: u64) -> u64
-    ensures answers { result ≡ status (move_clock (clock_of clock.old) (rate p q) edges) }
-    ensures leaves { clock.new ≡ stored clock_words (move_clock (clock_of clock.old) (rate p q) edges) clock.old }
+pub fn nt7508_clock_moved(clock: &mut [u64; 8], rate: Rate, edges: u64) -> u64
+    ensures answers { result ≡ status (move_clock (clock_of clock.old) rate edges) }
+    ensures leaves { clock.new ≡ stored clock_words (move_clock (clock_of clock.old) rate edges) clock.old }
 {
-    let rate = Rate {
-        numerator: p,
-        denominator: q,
-    };
     put(clock_of(clock).moved(rate, edges), clock)
 }
 
 // The clock moved to its last edge not later than a moment, by limit edges at the most, in place.
 pub fn nt7508_clock_passed_to(
     clock: &mut [u64; 8],
-    p: u64,
-    q: u64,
-    seconds: u64,
-    fraction: u64,
+    rate: Rate,
+    moment: Time,
     limit: u64,
     count: &mut u64,
 ) -> u64
-    ensures answers { result ≡ status (pass_edges (clock_of clock.old) (rate p q) (time seconds fraction) limit) }
-    ensures counts { count.new ≡ stored passed_count (pass_edges (clock_of clock.old) (rate p q) (time seconds fraction) limit) count.old }
-    ensures leaves { clock.new ≡ stored passed_words (pass_edges (clock_of clock.old) (rate p q) (time seconds fraction) limit) clock.old }
+    ensures answers { result ≡ status (pass_edges (clock_of clock.old) rate moment limit) }
+    ensures counts { count.new ≡ stored passed_count (pass_edges (clock_of clock.old) rate moment limit) count.old }
+    ensures leaves { clock.new ≡ stored passed_words (pass_edges (clock_of clock.old) rate moment limit) clock.old }
 {
-    let rate = Rate {
-        numerator: p,
-        denominator: q,
-    };
-    let now = Time { seconds, fraction };
-    match clock_of(clock).passed_to(rate, now, limit) {
+    match clock_of(clock).passed_to(rate, moment, limit) {
         Ok(passed) => {
             *count = passed.count;
             *clock = passed.clock.words();

@@ -1,8 +1,10 @@
 // The calls that change the controller, over words. The state is a block of 75 words (state_words.rt),
 // which the call changes in place; one that holds no state has number 20, before every other check.
-// RAM and icons are lent. An event is eight words: its kind (0 none, 1 data, 2 a command), the page,
-// the column, the value of data or the command, whether it has a parameter, the parameter, and the
-// seconds and fraction of its time; words that its kind does not have are 0.
+// RAM and icons that a call writes stand apart: the C interface lends two arrays, and a struct of two `&mut` is no
+// plainer, since a call that hands it on has to say what each of them is after it.
+// An event is eight words: its kind (0 none, 1 data, 2 a command), the page, the column, the value of data or the
+// command, whether it has a parameter, the parameter, and the seconds and fraction of its time; words that its kind
+// does not have are 0.
 ghost use Rattle.std.specs.Prelude.{◌≡◌, length, eqb};
 ghost use Rattle.checks.specs.Checks.{row, unless_refused};
 ghost use Rattle.controller.specs.State.{power_on};
@@ -11,7 +13,7 @@ ghost use Rattle.controller.specs.declared.state.Nt7508.{Nt7508};
 ghost use Rattle.controller.specs.Bits.{shift_in};
 ghost use Rattle.ffi.specs.Words.{check_status};
 ghost use Rattle.ffi.specs.StateWords.{state_of, state_words};
-ghost use Rattle.ffi.specs.ControllerWords.{told_words, event_words, rising_on, shifted_on, selected_on, data_on, supplied_on, temperature_on, lost_on, met_on, updated_on, restored_on};
+ghost use Rattle.ffi.specs.ControllerWords.{told_words, event_words, rising_on, shifted_on, selected_on, data_on, supplied_on, temperature_on, lost_on, met_on, updated_on, restored_on, ChangedOn};
 
 use crate::fast_words::fast_byte;
 use crate::state_words::{Block, held_mut, put_state, state_of};
@@ -19,6 +21,7 @@ use crate::words::{Words, optional_words};
 use checks::Numbered;
 use clock::Time;
 use controller::{Event, Nt7508, Refusal};
+use scan::Memory;
 
 // The number of a block that holds no state. It is the C interface's own, which no layer's refusal has.
 pub(crate) const NO_STATE: u64 = 20;
@@ -37,9 +40,9 @@ impl Words for Event {
                 value,
             } => [
                 1,
-                page as u64,
-                column as u64,
-                value as u64,
+                u64::from(page),
+                u64::from(column),
+                u64::from(value),
                 0,
                 0,
                 at.seconds,
@@ -51,7 +54,16 @@ impl Words for Event {
                 parameter,
             } => {
                 let p = optional_words(parameter.map(u64::from));
-                [2, 0, 0, command as u64, p[0], p[1], at.seconds, at.fraction]
+                [
+                    2,
+                    0,
+                    0,
+                    u64::from(command),
+                    p[0],
+                    p[1],
+                    at.seconds,
+                    at.fraction,
+                ]
             }
         }
     }
@@ -83,6 +95,19 @@ fn put_changed(answer: Result<Nt7508, Refusal>, block: &mut Block) -> u64
         }
         Err(refusal) => refusal.number(),
     }
+}
+
+// Changes the state of a block by a call. A block that holds none stays as it is, and so does one whose state the call
+// refuses.
+#[tactic(auto, using(crate::proofs::OnBlock::changes_none))]
+fn change<F: FnOnce(Nt7508) -> Result<Nt7508, Refusal>>(state: &mut [u64], call: F) -> u64
+    requires { F.IsAlwaysCallable call }
+    ensures { ChangedOn (F.post call) state.old result state.new }
+{
+    let Some(block) = held_mut(state) else {
+        return NO_STATE;
+    };
+    put_changed(call(state_of(block)), block)
 }
 
 // The state at power-on, into a block that holds anything.
@@ -128,19 +153,18 @@ fn shifted(
 pub fn nt7508_controller_rising(
     state: &mut [u64],
     bit: bool,
-    seconds: u64,
-    fraction: u64,
+    moment: Time,
     ram: &mut [u8],
     icons: &mut [u8],
     event: &mut [u64; 8],
 ) -> u64
-    ensures answers { result ≡ check_status (rising_on state.old bit seconds fraction ram.old icons.old).0 }
-    ensures leaves { state.new ≡ unless_refused (rising_on state.old bit seconds fraction ram.old icons.old).0 (state_words (rising_on state.old bit seconds fraction ram.old icons.old).1.state) state.old }
-    ensures tells { event.new ≡ unless_refused (rising_on state.old bit seconds fraction ram.old icons.old).0 (event_words (rising_on state.old bit seconds fraction ram.old icons.old).1.event) event.old }
-    ensures ram { ram.new ≡ (rising_on state.old bit seconds fraction ram.old icons.old).1.ram }
-    ensures icons { icons.new ≡ (rising_on state.old bit seconds fraction ram.old icons.old).1.icons }
+    ensures answers { result ≡ check_status (rising_on state.old bit moment ram.old icons.old).0 }
+    ensures leaves { state.new ≡ unless_refused (rising_on state.old bit moment ram.old icons.old).0 (state_words (rising_on state.old bit moment ram.old icons.old).1.state) state.old }
+    ensures tells { event.new ≡ unless_refused (rising_on state.old bit moment ram.old icons.old).0 (event_words (rising_on state.old bit moment ram.old icons.old).1.event) event.old }
+    ensures ram { ram.new ≡ (rising_on state.old bit moment ram.old icons.old).1.ram }
+    ensures icons { icons.new ≡ (rising_on state.old bit moment ram.old icons.old).1.icons }
 {
-    nt7508_controller_shift_in(state, bit as u8, 1, seconds, fraction, ram, icons, event)
+    nt7508_controller_shift_in(state, u8::from(bit), 1, moment, ram, icons, event)
 }
 
 // A group of rising edges, the oldest the highest of `bits`.
@@ -148,76 +172,60 @@ pub fn nt7508_controller_shift_in(
     state: &mut [u64],
     bits: u8,
     count: u8,
-    seconds: u64,
-    fraction: u64,
+    moment: Time,
     ram: &mut [u8],
     icons: &mut [u8],
     event: &mut [u64; 8],
 ) -> u64
-    ensures answers { result ≡ check_status (shifted_on state.old bits count seconds fraction ram.old icons.old).0 }
-    ensures leaves { state.new ≡ unless_refused (shifted_on state.old bits count seconds fraction ram.old icons.old).0 (state_words (shifted_on state.old bits count seconds fraction ram.old icons.old).1.state) state.old }
-    ensures tells { event.new ≡ unless_refused (shifted_on state.old bits count seconds fraction ram.old icons.old).0 (event_words (shifted_on state.old bits count seconds fraction ram.old icons.old).1.event) event.old }
-    ensures ram { ram.new ≡ (shifted_on state.old bits count seconds fraction ram.old icons.old).1.ram }
-    ensures icons { icons.new ≡ (shifted_on state.old bits count seconds fraction ram.old icons.old).1.icons }
+    ensures answers { result ≡ check_status (shifted_on state.old bits count moment ram.old icons.old).0 }
+    ensures leaves { state.new ≡ unless_refused (shifted_on state.old bits count moment ram.old icons.old).0 (state_words (shifted_on state.old bits count moment ram.old icons.old).1.state) state.old }
+    ensures tells { event.new ≡ unless_refused (shifted_on state.old bits count moment ram.old icons.old).0 (event_words (shifted_on state.old bits count moment ram.old icons.old).1.event) event.old }
+    ensures ram { ram.new ≡ (shifted_on state.old bits count moment ram.old icons.old).1.ram }
+    ensures icons { icons.new ≡ (shifted_on state.old bits count moment ram.old icons.old).1.icons }
 {
     let Some(block) = held_mut(state) else {
         return NO_STATE;
     };
-    let moment = Time { seconds, fraction };
     if fast_byte(block, bits, count, moment, ram, icons, event) {
         return 0;
     }
     shifted(block, bits, count, moment, ram, icons, event)
 }
 
+#[tactic(auto, using(crate::proofs::OnBlock::change_answers, crate::proofs::OnBlock::change_leaves))]
 pub fn nt7508_controller_select(state: &mut [u64], on: bool) -> u64
     ensures answers { result ≡ check_status (selected_on state.old on).0 }
     ensures leaves { state.new ≡ unless_refused (selected_on state.old on).0 (state_words (selected_on state.old on).1) state.old }
 {
-    let Some(block) = held_mut(state) else {
-        return NO_STATE;
-    };
-    put_changed(state_of(block).select(on), block)
+    change(state, |before| before.select(on))
 }
 
 // The data line: data, or commands.
+#[tactic(auto, using(crate::proofs::OnBlock::change_answers, crate::proofs::OnBlock::change_leaves))]
 pub fn nt7508_controller_command_data(state: &mut [u64], on: bool) -> u64
     ensures answers { result ≡ check_status (data_on state.old on).0 }
     ensures leaves { state.new ≡ unless_refused (data_on state.old on).0 (state_words (data_on state.old on).1) state.old }
 {
-    let Some(block) = held_mut(state) else {
-        return NO_STATE;
-    };
-    put_changed(state_of(block).command_data(on), block)
+    change(state, |before| before.command_data(on))
 }
 
-pub fn nt7508_controller_set_supply(
-    state: &mut [u64],
-    millivolts: u16,
-    seconds: u64,
-    fraction: u64,
-) -> u64
-    ensures answers { result ≡ check_status (supplied_on state.old millivolts seconds fraction).0 }
-    ensures leaves { state.new ≡ unless_refused (supplied_on state.old millivolts seconds fraction).0 (state_words (supplied_on state.old millivolts seconds fraction).1) state.old }
+#[tactic(auto, using(crate::proofs::OnBlock::change_answers, crate::proofs::OnBlock::change_leaves))]
+pub fn nt7508_controller_set_supply(state: &mut [u64], millivolts: u16, moment: Time) -> u64
+    ensures answers { result ≡ check_status (supplied_on state.old millivolts moment).0 }
+    ensures leaves { state.new ≡ unless_refused (supplied_on state.old millivolts moment).0 (state_words (supplied_on state.old millivolts moment).1) state.old }
 {
-    let Some(block) = held_mut(state) else {
-        return NO_STATE;
-    };
-    let now = Time { seconds, fraction };
-    put_changed(state_of(block).set_supply(millivolts, now), block)
+    change(state, |before| before.set_supply(millivolts, moment))
 }
 
+#[tactic(auto, using(crate::proofs::OnBlock::change_answers, crate::proofs::OnBlock::change_leaves))]
 pub fn nt7508_controller_set_temperature(state: &mut [u64], millicelsius: i32) -> u64
     ensures answers { result ≡ check_status (temperature_on state.old millicelsius).0 }
     ensures leaves { state.new ≡ unless_refused (temperature_on state.old millicelsius).0 (state_words (temperature_on state.old millicelsius).1) state.old }
 {
-    let Some(block) = held_mut(state) else {
-        return NO_STATE;
-    };
-    put_changed(state_of(block).set_temperature(millicelsius), block)
+    change(state, |before| before.set_temperature(millicelsius))
 }
 
-// The loss of memory.
+// The loss of memory. Not by `change`, for the same reason as `nt7508_controller_restore`.
 pub fn nt7508_controller_lose_volatile(state: &mut [u64], ram: &mut [u8], icons: &mut [u8]) -> u64
     ensures answers { result ≡ check_status (lost_on state.old ram.old icons.old).0 }
     ensures leaves { state.new ≡ unless_refused (lost_on state.old ram.old icons.old).0 (state_words (lost_on state.old ram.old icons.old).1.0) state.old }
@@ -231,33 +239,25 @@ pub fn nt7508_controller_lose_volatile(state: &mut [u64], ram: &mut [u8], icons:
 }
 
 // The deadline call, which ends the wait at its exact time.
-pub fn nt7508_controller_at_deadline(state: &mut [u64], seconds: u64, fraction: u64) -> u64
-    ensures answers { result ≡ check_status (met_on state.old seconds fraction).0 }
-    ensures leaves { state.new ≡ unless_refused (met_on state.old seconds fraction).0 (state_words (met_on state.old seconds fraction).1) state.old }
+#[tactic(auto, using(crate::proofs::OnBlock::change_answers, crate::proofs::OnBlock::change_leaves))]
+pub fn nt7508_controller_at_deadline(state: &mut [u64], moment: Time) -> u64
+    ensures answers { result ≡ check_status (met_on state.old moment).0 }
+    ensures leaves { state.new ≡ unless_refused (met_on state.old moment).0 (state_words (met_on state.old moment).1) state.old }
 {
-    let Some(block) = held_mut(state) else {
-        return NO_STATE;
-    };
-    let now = Time { seconds, fraction };
-    put_changed(state_of(block).at_deadline(now), block)
+    change(state, |before| before.at_deadline(moment))
 }
 
-// The scan stays as counted to a moment, and how many pieces that took.
-pub fn nt7508_controller_update(
-    state: &mut [u64],
-    seconds: u64,
-    fraction: u64,
-    pieces: &mut u8,
-) -> u64
-    ensures answers { result ≡ check_status (updated_on state.old seconds fraction).0 }
-    ensures leaves { state.new ≡ unless_refused (updated_on state.old seconds fraction).0 (state_words (updated_on state.old seconds fraction).1.0) state.old }
-    ensures counts { pieces.new ≡ unless_refused (updated_on state.old seconds fraction).0 (updated_on state.old seconds fraction).1.1 pieces.old }
+// The scan stays as counted to a moment, and how many pieces that took. Not by `change`, since the C interface lends a
+// number beside the block.
+pub fn nt7508_controller_update(state: &mut [u64], moment: Time, pieces: &mut u8) -> u64
+    ensures answers { result ≡ check_status (updated_on state.old moment).0 }
+    ensures leaves { state.new ≡ unless_refused (updated_on state.old moment).0 (state_words (updated_on state.old moment).1.0) state.old }
+    ensures counts { pieces.new ≡ unless_refused (updated_on state.old moment).0 (updated_on state.old moment).1.1 pieces.old }
 {
     let Some(block) = held_mut(state) else {
         return NO_STATE;
     };
-    let now = Time { seconds, fraction };
-    match state_of(block).update(now) {
+    match state_of(block).update(moment) {
         Ok(updated) => {
             put_state(updated.state, block);
             *pieces = updated.pieces;
@@ -267,20 +267,14 @@ pub fn nt7508_controller_update(
     }
 }
 
-// A state that was saved elsewhere, with its RAM and icons, at a moment.
-pub fn nt7508_controller_restore(
-    state: &mut [u64],
-    seconds: u64,
-    fraction: u64,
-    ram: &[u8],
-    icons: &[u8],
-) -> u64
-    ensures answers { result ≡ check_status (restored_on state.old seconds fraction ram.now icons.now).0 }
-    ensures leaves { state.new ≡ unless_refused (restored_on state.old seconds fraction ram.now icons.now).0 (state_words (restored_on state.old seconds fraction ram.now icons.now).1) state.old }
+// A state that was saved elsewhere, with its RAM and icons, at a moment. Not by `change`: of a closure that has lent
+// memory a proof knows nothing (tried).
+pub fn nt7508_controller_restore(state: &mut [u64], moment: Time, memory: Memory<'_>) -> u64
+    ensures answers { result ≡ check_status (restored_on state.old moment memory.entry.ram.now memory.entry.icons.now).0 }
+    ensures leaves { state.new ≡ unless_refused (restored_on state.old moment memory.entry.ram.now memory.entry.icons.now).0 (state_words (restored_on state.old moment memory.entry.ram.now memory.entry.icons.now).1) state.old }
 {
     let Some(block) = held_mut(state) else {
         return NO_STATE;
     };
-    let moment = Time { seconds, fraction };
-    put_changed(state_of(block).restore(moment, ram, icons), block)
+    put_changed(state_of(block).restore(moment, memory), block)
 }

@@ -4,7 +4,7 @@ ghost use Rattle.std.specs.Prelude.{◌≡◌};
 ghost use Rattle.scan.specs.Drive.{common_microvolts, segment_microvolts};
 ghost use Rattle.checks.specs.Checks.{unless_refused};
 ghost use Rattle.ffi.specs.Words.{check_status};
-ghost use Rattle.ffi.specs.DriveWords.{conditions_of, driven_of, driven_by, drive_words, common_of, level_of, drive_of};
+ghost use Rattle.ffi.specs.DriveWords.{driven_of, driven_by, drive_words, common_of, level_of, drive_of};
 ghost use Rattle.ffi.specs.VoltageWords.{level_word};
 
 use crate::scan_words::{scan_of, settings_of};
@@ -12,8 +12,8 @@ use crate::voltage_words::level_word;
 use crate::words::Words;
 use checks::Numbered;
 use clock::Time;
-use scan::{Conditions, Driven, LcdDrive};
-use voltage::{LcdVoltages, Supply};
+use scan::{Conditions, Driven, LcdDrive, Memory};
+use voltage::LcdVoltages;
 
 impl Words for LcdDrive {
     type Words = [u64; 12];
@@ -94,46 +94,27 @@ fn drive_of(w: &[u64; 12]) -> LcdDrive
 
 // The drive at a moment, and the frame of the scan shown (duty x PWM; 0 where undriven).
 pub fn nt7508_scan_drive(
-    ram: &[u8],
-    icons: &[u8],
+    memory: Memory<'_>,
     words: &[u64; 13],
     bytes: &[u8; 14],
     settings: &[u8; 20],
     analog: &[u8; 8],
-    display_on: bool,
-    oscillator_enabled: bool,
-    millivolts: u16,
-    temperature: i32,
-    power_save: bool,
-    waiting: bool,
-    seconds: u64,
-    fraction: u64,
+    conditions: Conditions,
+    moment: Time,
     out: &mut [u64; 12],
     frame: &mut u16,
 ) -> u64
-    ensures answers { result ≡ check_status (driven_of words.now bytes.now settings.now analog.now (conditions_of display_on oscillator_enabled millivolts temperature power_save waiting) seconds fraction ram.now icons.now).0 }
-    ensures leaves { out.new ≡ unless_refused (driven_of words.now bytes.now settings.now analog.now (conditions_of display_on oscillator_enabled millivolts temperature power_save waiting) seconds fraction ram.now icons.now).0 (drive_words (driven_of words.now bytes.now settings.now analog.now (conditions_of display_on oscillator_enabled millivolts temperature power_save waiting) seconds fraction ram.now icons.now).1.0) out.old }
-    ensures frames { frame.new ≡ unless_refused (driven_of words.now bytes.now settings.now analog.now (conditions_of display_on oscillator_enabled millivolts temperature power_save waiting) seconds fraction ram.now icons.now).0 (driven_of words.now bytes.now settings.now analog.now (conditions_of display_on oscillator_enabled millivolts temperature power_save waiting) seconds fraction ram.now icons.now).1.1 frame.old }
+    ensures answers { result ≡ check_status (driven_of words.now bytes.now settings.now analog.now conditions moment memory.entry.ram.now memory.entry.icons.now).0 }
+    ensures leaves { out.new ≡ unless_refused (driven_of words.now bytes.now settings.now analog.now conditions moment memory.entry.ram.now memory.entry.icons.now).0 (drive_words (driven_of words.now bytes.now settings.now analog.now conditions moment memory.entry.ram.now memory.entry.icons.now).1.0) out.old }
+    ensures frames { frame.new ≡ unless_refused (driven_of words.now bytes.now settings.now analog.now conditions moment memory.entry.ram.now memory.entry.icons.now).0 (driven_of words.now bytes.now settings.now analog.now conditions moment memory.entry.ram.now memory.entry.icons.now).1.1 frame.old }
 {
-    let conditions = Conditions {
-        display_on,
-        oscillator_enabled,
-        supply: Supply {
-            supply_millivolts: millivolts,
-            temperature_millicelsius: temperature,
-            power_save,
-            waiting,
-        },
-    };
-    let moment = Time { seconds, fraction };
     let driven = scan::drive::drive(
         scan_of(words, bytes),
         settings_of(settings),
         crate::voltage_words::settings_of(analog),
         conditions,
         moment,
-        ram,
-        icons,
+        memory,
     );
     put_drive(driven, out, frame)
 }

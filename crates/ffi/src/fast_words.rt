@@ -85,26 +85,26 @@ fn put_latch(scan: Scan, words: &mut Block)
 {
     words[11] = scan.latch.segments[0];
     words[12] = scan.latch.segments[1];
-    words[13] = scan.latch.latched as u64;
+    words[13] = u64::from(scan.latch.latched);
 }
 
 #[tactic(auto, unfolding(crate::specs::FastWords::counters_put))]
 fn put_counters(scan: Scan, words: &mut Block)
     ensures { words.new ≡ counters_put scan words.old }
 {
-    words[21] = scan.row as u64;
-    words[22] = scan.step as u64;
-    words[23] = scan.frc as u64;
-    words[25] = scan.inversion.count as u64;
-    words[26] = scan.inversion.inverted as u64;
+    words[21] = u64::from(scan.row);
+    words[22] = u64::from(scan.step);
+    words[23] = u64::from(scan.frc);
+    words[25] = u64::from(scan.inversion.count);
+    words[26] = u64::from(scan.inversion.inverted);
 }
 
 // Page and column, and no bit is under way.
 fn put_line(address: Address, words: &mut Block)
     ensures { words.new ≡ line_put address words.old }
 {
-    words[65] = address.page as u64;
-    words[66] = address.column_byte as u64;
+    words[65] = u64::from(address.page);
+    words[66] = u64::from(address.column_byte);
     words[71] = 0;
     words[72] = 0;
 }

@@ -14,3 +14,5 @@ pub mod session_words;
 mod state_words;
 pub mod voltage_words;
 mod words;
+
+pub use state_words::temperature_of;

@@ -1,7 +1,8 @@
 // The scan over words and bytes. The settings are twenty bytes, in the order in which the original
 // declares them, the palette taking eight. A scan is 13 words: whether its clock runs, the clock's
 // eight words, the rate, and the two words of the latch; and 14 bytes: its other fields in the
-// original's order. A yes or no is a byte or word other than 0, or 0.
+// original's order. The two stand apart, since the C interface lends two arrays. A yes or no is a byte or word other than
+// 0, or 0.
 ghost use Rattle.std.specs.Prelude.{◌≡◌, length};
 ghost use Rattle.checks.specs.Checks.{unless_refused};
 ghost use Rattle.scan.specs.Check.{answered, check_image};
@@ -14,7 +15,7 @@ use crate::clock_words::clock_of;
 use crate::words::{Words, status};
 use checks::Numbered;
 use clock::{Clock, Rate, Time};
-use scan::{Frame, Inversion, Latch, Refusal, Running, Scan, Settings, Ticking};
+use scan::{Frame, Inversion, Latch, Memory, Refusal, Running, Scan, Settings, Ticking};
 
 pub(crate) fn settings_of(b: &[u8; 20]) -> Settings
     ensures { result ≡ settings_of b.now }
@@ -154,17 +155,15 @@ pub fn nt7508_scan_count_to(
     settings: &[u8; 20],
     words: &mut [u64; 13],
     bytes: &mut [u8; 14],
-    seconds: u64,
-    fraction: u64,
+    moment: Time,
     pieces: &mut u8,
 ) -> u64
-    ensures answers { result ≡ check_status (counted_of words.old bytes.old settings.now seconds fraction).0 }
-    ensures counts { pieces.new ≡ unless_refused (counted_of words.old bytes.old settings.now seconds fraction).0 (counted_of words.old bytes.old settings.now seconds fraction).1.1 pieces.old }
-    ensures words { words.new ≡ unless_refused (counted_of words.old bytes.old settings.now seconds fraction).0 (scan_words (counted_of words.old bytes.old settings.now seconds fraction).1.0) words.old }
-    ensures bytes { bytes.new ≡ unless_refused (counted_of words.old bytes.old settings.now seconds fraction).0 (scan_bytes (counted_of words.old bytes.old settings.now seconds fraction).1.0) bytes.old }
+    ensures answers { result ≡ check_status (counted_of words.old bytes.old settings.now moment).0 }
+    ensures counts { pieces.new ≡ unless_refused (counted_of words.old bytes.old settings.now moment).0 (counted_of words.old bytes.old settings.now moment).1.1 pieces.old }
+    ensures words { words.new ≡ unless_refused (counted_of words.old bytes.old settings.now moment).0 (scan_words (counted_of words.old bytes.old settings.now moment).1.0) words.old }
+    ensures bytes { bytes.new ≡ unless_refused (counted_of words.old bytes.old settings.now moment).0 (scan_bytes (counted_of words.old bytes.old settings.now moment).1.0) bytes.old }
 {
-    let now = Time { seconds, fraction };
-    match scan_of(words, bytes).count_to(settings_of(settings), now) {
+    match scan_of(words, bytes).count_to(settings_of(settings), moment) {
         Ok(counted) => {
             *pieces = counted.pieces;
             *words = scan_words(counted.scan);
@@ -177,25 +176,22 @@ pub fn nt7508_scan_count_to(
 
 // The scan as a data byte for a page, or a command, has to find it at a moment, in place.
 pub fn nt7508_scan_before_byte(
-    ram: &[u8],
-    icons: &[u8],
+    memory: Memory<'_>,
     settings: &[u8; 20],
     words: &mut [u64; 13],
     bytes: &mut [u8; 14],
-    seconds: u64,
-    fraction: u64,
+    moment: Time,
     sent: bool,
     page: u8,
 ) -> u64
-    ensures answers { result ≡ check_status (before_of words.old bytes.old settings.now seconds fraction sent page ram.now icons.now).0 }
-    ensures words { words.new ≡ unless_refused (before_of words.old bytes.old settings.now seconds fraction sent page ram.now icons.now).0 (scan_words (before_of words.old bytes.old settings.now seconds fraction sent page ram.now icons.now).1) words.old }
-    ensures bytes { bytes.new ≡ unless_refused (before_of words.old bytes.old settings.now seconds fraction sent page ram.now icons.now).0 (scan_bytes (before_of words.old bytes.old settings.now seconds fraction sent page ram.now icons.now).1) bytes.old }
+    ensures answers { result ≡ check_status (before_of words.old bytes.old settings.now moment sent page memory.entry.ram.now memory.entry.icons.now).0 }
+    ensures words { words.new ≡ unless_refused (before_of words.old bytes.old settings.now moment sent page memory.entry.ram.now memory.entry.icons.now).0 (scan_words (before_of words.old bytes.old settings.now moment sent page memory.entry.ram.now memory.entry.icons.now).1) words.old }
+    ensures bytes { bytes.new ≡ unless_refused (before_of words.old bytes.old settings.now moment sent page memory.entry.ram.now memory.entry.icons.now).0 (scan_bytes (before_of words.old bytes.old settings.now moment sent page memory.entry.ram.now memory.entry.icons.now).1) bytes.old }
 {
-    let moment = Time { seconds, fraction };
     let before = scan_of(words, bytes);
     let present = settings_of(settings);
     put_scan(
-        before.before_byte(present, moment, sent.then_some(page), ram, icons),
+        before.before_byte(present, moment, sent.then_some(page), memory),
         words,
         bytes,
     )
@@ -203,26 +199,23 @@ pub fn nt7508_scan_before_byte(
 
 // The scan after a byte or a warm rise at a moment, in place, by whether it ran before and runs after.
 pub fn nt7508_scan_after_byte(
-    ram: &[u8],
-    icons: &[u8],
+    memory: Memory<'_>,
     settings: &[u8; 20],
     words: &mut [u64; 13],
     bytes: &mut [u8; 14],
-    seconds: u64,
-    fraction: u64,
+    moment: Time,
     was_running: bool,
     running: bool,
 ) -> u64
-    ensures answers { result ≡ check_status (after_of words.old bytes.old settings.now seconds fraction was_running running ram.now icons.now).0 }
-    ensures words { words.new ≡ unless_refused (after_of words.old bytes.old settings.now seconds fraction was_running running ram.now icons.now).0 (scan_words (after_of words.old bytes.old settings.now seconds fraction was_running running ram.now icons.now).1) words.old }
-    ensures bytes { bytes.new ≡ unless_refused (after_of words.old bytes.old settings.now seconds fraction was_running running ram.now icons.now).0 (scan_bytes (after_of words.old bytes.old settings.now seconds fraction was_running running ram.now icons.now).1) bytes.old }
+    ensures answers { result ≡ check_status (after_of words.old bytes.old settings.now moment was_running running memory.entry.ram.now memory.entry.icons.now).0 }
+    ensures words { words.new ≡ unless_refused (after_of words.old bytes.old settings.now moment was_running running memory.entry.ram.now memory.entry.icons.now).0 (scan_words (after_of words.old bytes.old settings.now moment was_running running memory.entry.ram.now memory.entry.icons.now).1) words.old }
+    ensures bytes { bytes.new ≡ unless_refused (after_of words.old bytes.old settings.now moment was_running running memory.entry.ram.now memory.entry.icons.now).0 (scan_bytes (after_of words.old bytes.old settings.now moment was_running running memory.entry.ram.now memory.entry.icons.now).1) bytes.old }
 {
-    let moment = Time { seconds, fraction };
     let before = scan_of(words, bytes);
     let present = settings_of(settings);
     let runs = Running::after(was_running, running);
     put_scan(
-        before.after_byte(present, moment, runs, ram, icons),
+        before.after_byte(present, moment, runs, memory),
         words,
         bytes,
     )
@@ -233,28 +226,25 @@ pub fn nt7508_scan_fall(
     settings: &[u8; 20],
     words: &mut [u64; 13],
     bytes: &mut [u8; 14],
-    seconds: u64,
-    fraction: u64,
+    moment: Time,
 ) -> u64
-    ensures answers { result ≡ check_status (fallen_of words.old bytes.old settings.now seconds fraction).0 }
-    ensures words { words.new ≡ unless_refused (fallen_of words.old bytes.old settings.now seconds fraction).0 (scan_words (fallen_of words.old bytes.old settings.now seconds fraction).1) words.old }
-    ensures bytes { bytes.new ≡ unless_refused (fallen_of words.old bytes.old settings.now seconds fraction).0 (scan_bytes (fallen_of words.old bytes.old settings.now seconds fraction).1) bytes.old }
+    ensures answers { result ≡ check_status (fallen_of words.old bytes.old settings.now moment).0 }
+    ensures words { words.new ≡ unless_refused (fallen_of words.old bytes.old settings.now moment).0 (scan_words (fallen_of words.old bytes.old settings.now moment).1) words.old }
+    ensures bytes { bytes.new ≡ unless_refused (fallen_of words.old bytes.old settings.now moment).0 (scan_bytes (fallen_of words.old bytes.old settings.now moment).1) bytes.old }
 {
-    let now = Time { seconds, fraction };
     let before = scan_of(words, bytes);
-    put_scan(before.fall(settings_of(settings), now), words, bytes)
+    put_scan(before.fall(settings_of(settings), moment), words, bytes)
 }
 
 // The gray image, where the glass is driven or not.
 pub fn nt7508_scan_render(
-    ram: &[u8],
-    icons: &[u8],
+    memory: Memory<'_>,
     image: &mut [u8],
     settings: &[u8; 20],
     driven: bool,
 ) -> u64
-    ensures answers { result ≡ check_status (check_image (settings_of settings.now) ram.now icons.now (length image.old)) }
-    ensures leaves { image.new ≡ rendered (settings_of settings.now) driven ram.now icons.now image.old }
+    ensures answers { result ≡ check_status (check_image (settings_of settings.now) memory.entry.ram.now memory.entry.icons.now (length image.old)) }
+    ensures leaves { image.new ≡ rendered (settings_of settings.now) driven memory.entry.ram.now memory.entry.icons.now image.old }
 {
-    status(scan::render(settings_of(settings), driven, ram, icons, image))
+    status(scan::render(settings_of(settings), driven, memory, image))
 }

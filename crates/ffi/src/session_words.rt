@@ -1,5 +1,6 @@
 // The session program over words (crates/session). What a session ends with is two words: how many
-// bytes of the listing it wrote, and the line of its refusal, 0 where there is none.
+// bytes of the listing it wrote, and the line of its refusal, 0 where there is none. RAM and icons stand apart, as in
+// controller_words.rt.
 ghost use Rattle.std.specs.Prelude.{◌≡◌, [], ◌∷◌};
 ghost use Rattle.session.specs.Session.{refused_at};
 ghost use Rattle.ffi.specs.SessionWords.{refusal_number, refusal_line, answered, session_on};
@@ -9,6 +10,7 @@ use crate::state_words::put_state;
 use checks::Numbered;
 use session::Stop;
 
+// Not by `put`: the words go out with a refusal too.
 fn put_end(written: usize, end: Result<(), Stop>, ended: &mut [u64; 2]) -> u64
     ensures answers { result ≡ refusal_number (refused_at end) }
     ensures leaves { ended.new ≡ written ∷ refusal_line (refused_at end) ∷ [] }

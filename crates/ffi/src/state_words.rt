@@ -133,6 +133,7 @@ fn clock_in(w: &Block) -> Option<Clock>
     running_of(w[0], &words)
 }
 
+// A word that fits its field keeps its value under `%`, which lets a proof see that `as` loses nothing.
 #[tactic(auto, unfolding(crate::specs::StateWords::scan_in))]
 pub(crate) fn scan_in(w: &Block) -> Scan
     ensures { result ≡ scan_in w.now }
@@ -214,7 +215,7 @@ pub(crate) fn analog_in(w: &Block) -> voltage::Settings
 }
 
 // A temperature from its number counted from the lowest.
-fn temperature_of(word: u64) -> i32
+pub fn temperature_of(word: u64) -> i32
     ensures { result ≡ temperature_of word }
 {
     ((word % 4294967296) as i64 - 2147483648) as i32
@@ -316,20 +317,20 @@ fn scan_part(scan: Scan) -> [u64; 27]
         scan.ticking.rate.denominator,
         scan.latch.segments[0],
         scan.latch.segments[1],
-        scan.latch.latched as u64,
-        scan.frame.duty as u64,
-        scan.frame.icon as u64,
-        scan.frame.initial_com as u64,
-        scan.frame.common_reverse as u64,
-        scan.frame.start_line as u64,
-        scan.frame.frc_count as u64,
-        scan.pwm as u64,
-        scan.row as u64,
-        scan.step as u64,
-        scan.frc as u64,
-        scan.inversion.lines as u64,
-        scan.inversion.count as u64,
-        scan.inversion.inverted as u64,
+        u64::from(scan.latch.latched),
+        u64::from(scan.frame.duty),
+        u64::from(scan.frame.icon),
+        u64::from(scan.frame.initial_com),
+        u64::from(scan.frame.common_reverse),
+        u64::from(scan.frame.start_line),
+        u64::from(scan.frame.frc_count),
+        u64::from(scan.pwm),
+        u64::from(scan.row),
+        u64::from(scan.step),
+        u64::from(scan.frc),
+        u64::from(scan.inversion.lines),
+        u64::from(scan.inversion.count),
+        u64::from(scan.inversion.inverted),
     ]
 }
 
@@ -339,26 +340,26 @@ fn display_part(display: scan::Settings) -> [u64; 20]
 {
     let p = display.palette;
     [
-        display.start_line as u64,
-        display.icon_enabled as u64,
-        display.entire_on as u64,
-        display.reverse as u64,
-        display.segment_reverse as u64,
-        display.common_reverse as u64,
-        display.initial_com as u64,
-        display.duty as u64,
-        display.inversion_lines as u64,
-        display.gray_mode as u64,
-        p[0] as u64,
-        p[1] as u64,
-        p[2] as u64,
-        p[3] as u64,
-        p[4] as u64,
-        p[5] as u64,
-        p[6] as u64,
-        p[7] as u64,
-        display.oscillator_control as u64,
-        display.oscillator_frequency as u64,
+        u64::from(display.start_line),
+        u64::from(display.icon_enabled),
+        u64::from(display.entire_on),
+        u64::from(display.reverse),
+        u64::from(display.segment_reverse),
+        u64::from(display.common_reverse),
+        u64::from(display.initial_com),
+        u64::from(display.duty),
+        u64::from(display.inversion_lines),
+        u64::from(display.gray_mode),
+        u64::from(p[0]),
+        u64::from(p[1]),
+        u64::from(p[2]),
+        u64::from(p[3]),
+        u64::from(p[4]),
+        u64::from(p[5]),
+        u64::from(p[6]),
+        u64::from(p[7]),
+        u64::from(display.oscillator_control),
+        u64::from(display.oscillator_frequency),
     ]
 }
 
@@ -366,21 +367,21 @@ fn analog_part(analog: voltage::Settings) -> [u64; 8]
     ensures { result ≡ analog_part analog }
 {
     [
-        analog.contrast as u64,
-        analog.contrast_trim as u64,
-        analog.otp_control as u64,
-        analog.regulator as u64,
-        analog.power_control as u64,
-        analog.booster as u64,
-        analog.bias as u64,
-        analog.temperature_slope as u64,
+        u64::from(analog.contrast),
+        u64::from(analog.contrast_trim),
+        u64::from(analog.otp_control),
+        u64::from(analog.regulator),
+        u64::from(analog.power_control),
+        u64::from(analog.booster),
+        u64::from(analog.bias),
+        u64::from(analog.temperature_slope),
     ]
 }
 
 fn temperature_word(temperature: i32) -> u64
     ensures { result ≡ temperature_word temperature }
 {
-    ((temperature as i64) + 2147483648) as u64
+    (i64::from(temperature) + 2147483648) as u64
 }
 
 fn power_part(power: Power) -> [u64; 10]
@@ -388,13 +389,13 @@ fn power_part(power: Power) -> [u64; 10]
 {
     let r = power.ready.words();
     [
-        power.display_on as u64,
-        power.power_save as u64,
-        power.oscillator_enabled as u64,
-        power.supplied as u64,
-        power.supply_millivolts as u64,
+        u64::from(power.display_on),
+        u64::from(power.power_save),
+        u64::from(power.oscillator_enabled),
+        u64::from(power.supplied),
+        u64::from(power.supply_millivolts),
         temperature_word(power.temperature_millicelsius),
-        power.cold as u64,
+        u64::from(power.cold),
         r[0],
         r[1],
         r[2],
@@ -406,7 +407,12 @@ fn address_part(address: Address) -> [u64; 4]
     ensures { result ≡ address_part address }
 {
     let s = optional_words(address.saved_column.map(u64::from));
-    [address.page as u64, address.column_byte as u64, s[0], s[1]]
+    [
+        u64::from(address.page),
+        u64::from(address.column_byte),
+        s[0],
+        s[1],
+    ]
 }
 
 #[tactic(auto, unfolding(crate::specs::StateWords::serial_part))]
@@ -415,10 +421,10 @@ fn serial_part(serial: Serial) -> [u64; 6]
 {
     let p = optional_words(serial.pending.map(u64::from));
     [
-        serial.selected as u64,
-        serial.data as u64,
-        serial.shift as u64,
-        serial.bits as u64,
+        u64::from(serial.selected),
+        u64::from(serial.data),
+        u64::from(serial.shift),
+        u64::from(serial.bits),
         p[0],
         p[1],
     ]

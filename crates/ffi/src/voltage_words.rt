@@ -5,7 +5,7 @@ ghost use Rattle.std.specs.Prelude.{◌≡◌};
 ghost use Rattle.voltage.specs.Check.{valid_settings};
 ghost use Rattle.voltage.specs.Answers.{answer_of};
 ghost use Rattle.ffi.specs.Words.{status, stored};
-ghost use Rattle.ffi.specs.VoltageWords.{settings_of, supply_of, level_word, voltage_words, pair_words, FinderAnswers};
+ghost use Rattle.ffi.specs.VoltageWords.{settings_of, level_word, voltage_words, pair_words, FinderAnswers};
 
 use crate::words::{Words, put};
 use voltage::finder::{Pair, find_setting};
@@ -73,23 +73,10 @@ pub fn nt7508_settings_valid(settings: &[u8; 8]) -> bool
 }
 
 // Target, pump and V0 to V4.
-pub fn nt7508_voltages(
-    settings: &[u8; 8],
-    millivolts: u16,
-    temperature: i32,
-    power_save: bool,
-    waiting: bool,
-    out: &mut [u64; 7],
-) -> u64
-    ensures answers { result ≡ status (answer_of (settings_of settings.now) (supply_of millivolts temperature power_save waiting)) }
-    ensures leaves { out.new ≡ stored voltage_words (answer_of (settings_of settings.now) (supply_of millivolts temperature power_save waiting)) out.old }
+pub fn nt7508_voltages(settings: &[u8; 8], supply: Supply, out: &mut [u64; 7]) -> u64
+    ensures answers { result ≡ status (answer_of (settings_of settings.now) supply) }
+    ensures leaves { out.new ≡ stored voltage_words (answer_of (settings_of settings.now) supply) out.old }
 {
-    let supply = Supply {
-        supply_millivolts: millivolts,
-        temperature_millicelsius: temperature,
-        power_save,
-        waiting,
-    };
     put(voltage::voltages(settings_of(settings), supply), out)
 }
 

@@ -3,8 +3,12 @@ ghost use Rattle.std.specs.Prelude.{◌≡◌, length, eqb};
 ghost use Rattle.checks.specs.Checks.{row, unless_refused};
 ghost use Rattle.controller.specs.State.{power_on};
 ghost use Rattle.ffi.specs.Words.{check_status};
+ghost use Rattle.ffi.specs.ClockWords.{time};
 ghost use Rattle.ffi.specs.StateWords.{state_words};
 ghost use Rattle.ffi.specs.ControllerWords.{event_words, rising_on, shifted_on, selected_on, data_on, supplied_on, temperature_on, lost_on, met_on, updated_on, restored_on};
+
+use clock::Time;
+use scan::Memory;
 
 #[unsafe(no_mangle)]
 pub extern "C" fn nt7508_controller_new(state: &mut [u64]) -> u64
@@ -24,14 +28,19 @@ pub extern "C" fn nt7508_controller_rising(
     icons: &mut [u8],
     event: &mut [u64; 8],
 ) -> u64
-    ensures answers { result ≡ check_status (rising_on state.old bit seconds fraction ram.old icons.old).0 }
-    ensures leaves { state.new ≡ unless_refused (rising_on state.old bit seconds fraction ram.old icons.old).0 (state_words (rising_on state.old bit seconds fraction ram.old icons.old).1.state) state.old }
-    ensures tells { event.new ≡ unless_refused (rising_on state.old bit seconds fraction ram.old icons.old).0 (event_words (rising_on state.old bit seconds fraction ram.old icons.old).1.event) event.old }
-    ensures ram { ram.new ≡ (rising_on state.old bit seconds fraction ram.old icons.old).1.ram }
-    ensures icons { icons.new ≡ (rising_on state.old bit seconds fraction ram.old icons.old).1.icons }
+    ensures answers { result ≡ check_status (rising_on state.old bit (time seconds fraction) ram.old icons.old).0 }
+    ensures leaves { state.new ≡ unless_refused (rising_on state.old bit (time seconds fraction) ram.old icons.old).0 (state_words (rising_on state.old bit (time seconds fraction) ram.old icons.old).1.state) state.old }
+    ensures tells { event.new ≡ unless_refused (rising_on state.old bit (time seconds fraction) ram.old icons.old).0 (event_words (rising_on state.old bit (time seconds fraction) ram.old icons.old).1.event) event.old }
+    ensures ram { ram.new ≡ (rising_on state.old bit (time seconds fraction) ram.old icons.old).1.ram }
+    ensures icons { icons.new ≡ (rising_on state.old bit (time seconds fraction) ram.old icons.old).1.icons }
 {
     ffi::controller_words::nt7508_controller_rising(
-        state, bit, seconds, fraction, ram, icons, event,
+        state,
+        bit,
+        Time { seconds, fraction },
+        ram,
+        icons,
+        event,
     )
 }
 
@@ -46,14 +55,20 @@ pub extern "C" fn nt7508_controller_shift_in(
     icons: &mut [u8],
     event: &mut [u64; 8],
 ) -> u64
-    ensures answers { result ≡ check_status (shifted_on state.old bits count seconds fraction ram.old icons.old).0 }
-    ensures leaves { state.new ≡ unless_refused (shifted_on state.old bits count seconds fraction ram.old icons.old).0 (state_words (shifted_on state.old bits count seconds fraction ram.old icons.old).1.state) state.old }
-    ensures tells { event.new ≡ unless_refused (shifted_on state.old bits count seconds fraction ram.old icons.old).0 (event_words (shifted_on state.old bits count seconds fraction ram.old icons.old).1.event) event.old }
-    ensures ram { ram.new ≡ (shifted_on state.old bits count seconds fraction ram.old icons.old).1.ram }
-    ensures icons { icons.new ≡ (shifted_on state.old bits count seconds fraction ram.old icons.old).1.icons }
+    ensures answers { result ≡ check_status (shifted_on state.old bits count (time seconds fraction) ram.old icons.old).0 }
+    ensures leaves { state.new ≡ unless_refused (shifted_on state.old bits count (time seconds fraction) ram.old icons.old).0 (state_words (shifted_on state.old bits count (time seconds fraction) ram.old icons.old).1.state) state.old }
+    ensures tells { event.new ≡ unless_refused (shifted_on state.old bits count (time seconds fraction) ram.old icons.old).0 (event_words (shifted_on state.old bits count (time seconds fraction) ram.old icons.old).1.event) event.old }
+    ensures ram { ram.new ≡ (shifted_on state.old bits count (time seconds fraction) ram.old icons.old).1.ram }
+    ensures icons { icons.new ≡ (shifted_on state.old bits count (time seconds fraction) ram.old icons.old).1.icons }
 {
     ffi::controller_words::nt7508_controller_shift_in(
-        state, bits, count, seconds, fraction, ram, icons, event,
+        state,
+        bits,
+        count,
+        Time { seconds, fraction },
+        ram,
+        icons,
+        event,
     )
 }
 
@@ -80,10 +95,14 @@ pub extern "C" fn nt7508_controller_set_supply(
     seconds: u64,
     fraction: u64,
 ) -> u64
-    ensures answers { result ≡ check_status (supplied_on state.old millivolts seconds fraction).0 }
-    ensures leaves { state.new ≡ unless_refused (supplied_on state.old millivolts seconds fraction).0 (state_words (supplied_on state.old millivolts seconds fraction).1) state.old }
+    ensures answers { result ≡ check_status (supplied_on state.old millivolts (time seconds fraction)).0 }
+    ensures leaves { state.new ≡ unless_refused (supplied_on state.old millivolts (time seconds fraction)).0 (state_words (supplied_on state.old millivolts (time seconds fraction)).1) state.old }
 {
-    ffi::controller_words::nt7508_controller_set_supply(state, millivolts, seconds, fraction)
+    ffi::controller_words::nt7508_controller_set_supply(
+        state,
+        millivolts,
+        Time { seconds, fraction },
+    )
 }
 
 #[unsafe(no_mangle)]
@@ -114,10 +133,10 @@ pub extern "C" fn nt7508_controller_at_deadline(
     seconds: u64,
     fraction: u64,
 ) -> u64
-    ensures answers { result ≡ check_status (met_on state.old seconds fraction).0 }
-    ensures leaves { state.new ≡ unless_refused (met_on state.old seconds fraction).0 (state_words (met_on state.old seconds fraction).1) state.old }
+    ensures answers { result ≡ check_status (met_on state.old (time seconds fraction)).0 }
+    ensures leaves { state.new ≡ unless_refused (met_on state.old (time seconds fraction)).0 (state_words (met_on state.old (time seconds fraction)).1) state.old }
 {
-    ffi::controller_words::nt7508_controller_at_deadline(state, seconds, fraction)
+    ffi::controller_words::nt7508_controller_at_deadline(state, Time { seconds, fraction })
 }
 
 #[unsafe(no_mangle)]
@@ -127,11 +146,11 @@ pub extern "C" fn nt7508_controller_update(
     fraction: u64,
     pieces: &mut u8,
 ) -> u64
-    ensures answers { result ≡ check_status (updated_on state.old seconds fraction).0 }
-    ensures leaves { state.new ≡ unless_refused (updated_on state.old seconds fraction).0 (state_words (updated_on state.old seconds fraction).1.0) state.old }
-    ensures counts { pieces.new ≡ unless_refused (updated_on state.old seconds fraction).0 (updated_on state.old seconds fraction).1.1 pieces.old }
+    ensures answers { result ≡ check_status (updated_on state.old (time seconds fraction)).0 }
+    ensures leaves { state.new ≡ unless_refused (updated_on state.old (time seconds fraction)).0 (state_words (updated_on state.old (time seconds fraction)).1.0) state.old }
+    ensures counts { pieces.new ≡ unless_refused (updated_on state.old (time seconds fraction)).0 (updated_on state.old (time seconds fraction)).1.1 pieces.old }
 {
-    ffi::controller_words::nt7508_controller_update(state, seconds, fraction, pieces)
+    ffi::controller_words::nt7508_controller_update(state, Time { seconds, fraction }, pieces)
 }
 
 #[unsafe(no_mangle)]
@@ -142,8 +161,12 @@ pub extern "C" fn nt7508_controller_restore(
     ram: &[u8],
     icons: &[u8],
 ) -> u64
-    ensures answers { result ≡ check_status (restored_on state.old seconds fraction ram.now icons.now).0 }
-    ensures leaves { state.new ≡ unless_refused (restored_on state.old seconds fraction ram.now icons.now).0 (state_words (restored_on state.old seconds fraction ram.now icons.now).1) state.old }
+    ensures answers { result ≡ check_status (restored_on state.old (time seconds fraction) ram.now icons.now).0 }
+    ensures leaves { state.new ≡ unless_refused (restored_on state.old (time seconds fraction) ram.now icons.now).0 (state_words (restored_on state.old (time seconds fraction) ram.now icons.now).1) state.old }
 {
-    ffi::controller_words::nt7508_controller_restore(state, seconds, fraction, ram, icons)
+    ffi::controller_words::nt7508_controller_restore(
+        state,
+        Time { seconds, fraction },
+        Memory { ram, icons },
+    )
 }

@@ -3,8 +3,13 @@ ghost use Rattle.std.specs.Prelude.{◌≡◌};
 ghost use Rattle.scan.specs.Drive.{common_microvolts, segment_microvolts};
 ghost use Rattle.checks.specs.Checks.{unless_refused};
 ghost use Rattle.ffi.specs.Words.{check_status};
+ghost use Rattle.ffi.specs.ClockWords.{time};
 ghost use Rattle.ffi.specs.DriveWords.{conditions_of, driven_of, drive_words, drive_of};
 ghost use Rattle.ffi.specs.VoltageWords.{level_word};
+
+use clock::Time;
+use scan::{Conditions, Memory};
+use voltage::Supply;
 
 #[unsafe(no_mangle)]
 pub extern "C" fn nt7508_scan_drive(
@@ -25,25 +30,28 @@ pub extern "C" fn nt7508_scan_drive(
     out: &mut [u64; 12],
     frame: &mut u16,
 ) -> u64
-    ensures answers { result ≡ check_status (driven_of words.now bytes.now settings.now analog.now (conditions_of display_on oscillator_enabled millivolts temperature power_save waiting) seconds fraction ram.now icons.now).0 }
-    ensures leaves { out.new ≡ unless_refused (driven_of words.now bytes.now settings.now analog.now (conditions_of display_on oscillator_enabled millivolts temperature power_save waiting) seconds fraction ram.now icons.now).0 (drive_words (driven_of words.now bytes.now settings.now analog.now (conditions_of display_on oscillator_enabled millivolts temperature power_save waiting) seconds fraction ram.now icons.now).1.0) out.old }
-    ensures frames { frame.new ≡ unless_refused (driven_of words.now bytes.now settings.now analog.now (conditions_of display_on oscillator_enabled millivolts temperature power_save waiting) seconds fraction ram.now icons.now).0 (driven_of words.now bytes.now settings.now analog.now (conditions_of display_on oscillator_enabled millivolts temperature power_save waiting) seconds fraction ram.now icons.now).1.1 frame.old }
+    ensures answers { result ≡ check_status (driven_of words.now bytes.now settings.now analog.now (conditions_of display_on oscillator_enabled millivolts temperature power_save waiting) (time seconds fraction) ram.now icons.now).0 }
+    ensures leaves { out.new ≡ unless_refused (driven_of words.now bytes.now settings.now analog.now (conditions_of display_on oscillator_enabled millivolts temperature power_save waiting) (time seconds fraction) ram.now icons.now).0 (drive_words (driven_of words.now bytes.now settings.now analog.now (conditions_of display_on oscillator_enabled millivolts temperature power_save waiting) (time seconds fraction) ram.now icons.now).1.0) out.old }
+    ensures frames { frame.new ≡ unless_refused (driven_of words.now bytes.now settings.now analog.now (conditions_of display_on oscillator_enabled millivolts temperature power_save waiting) (time seconds fraction) ram.now icons.now).0 (driven_of words.now bytes.now settings.now analog.now (conditions_of display_on oscillator_enabled millivolts temperature power_save waiting) (time seconds fraction) ram.now icons.now).1.1 frame.old }
 {
+    let conditions = Conditions {
+        display_on,
+        oscillator_enabled,
+        supply: Supply {
+            supply_millivolts: millivolts,
+            temperature_millicelsius: temperature,
+            power_save,
+            waiting,
+        },
+    };
     ffi::drive_words::nt7508_scan_drive(
-        ram,
-        icons,
+        Memory { ram, icons },
         words,
         bytes,
         settings,
         analog,
-        display_on,
-        oscillator_enabled,
-        millivolts,
-        temperature,
-        power_save,
-        waiting,
-        seconds,
-        fraction,
+        conditions,
+        Time { seconds, fraction },
         out,
         frame,
     )

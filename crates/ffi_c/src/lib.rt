@@ -1,5 +1,6 @@
 // The exports to C and Rust (include/nt7508.h). Each function calls the one of `ffi` that has its name, and states that
-// one's clauses again; what it does and what its words are is said there, in the module of the same name.
+// one's clauses again, over what C has: a time is its seconds and fraction, a rate p / q, lent memory two arrays. What it
+// does and what its words are is said there, in the module of the same name.
 #![tactic(auto)]
 
 mod clock_words;

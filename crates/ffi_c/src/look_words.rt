@@ -2,10 +2,13 @@
 ghost use Rattle.std.specs.Prelude.{◌≡◌};
 ghost use Rattle.checks.specs.Checks.{unless_refused};
 ghost use Rattle.ffi.specs.Words.{check_status, status, stored};
-ghost use Rattle.ffi.specs.ClockWords.{deadline_words};
+ghost use Rattle.ffi.specs.ClockWords.{time, deadline_words};
 ghost use Rattle.ffi.specs.DriveWords.{drive_words};
 ghost use Rattle.ffi.specs.VoltageWords.{voltage_words};
 ghost use Rattle.ffi.specs.ControllerWords.{driven_on, rendered_on, voltages_on, edges_on, deadline_on, FoundOn};
+
+use clock::Time;
+use scan::Memory;
 
 #[unsafe(no_mangle)]
 pub extern "C" fn nt7508_controller_drive(
@@ -17,11 +20,17 @@ pub extern "C" fn nt7508_controller_drive(
     out: &mut [u64; 12],
     frame: &mut u16,
 ) -> u64
-    ensures answers { result ≡ check_status (driven_on state.now seconds fraction ram.now icons.now).0 }
-    ensures leaves { out.new ≡ unless_refused (driven_on state.now seconds fraction ram.now icons.now).0 (drive_words (driven_on state.now seconds fraction ram.now icons.now).1.0) out.old }
-    ensures frames { frame.new ≡ unless_refused (driven_on state.now seconds fraction ram.now icons.now).0 (driven_on state.now seconds fraction ram.now icons.now).1.1 frame.old }
+    ensures answers { result ≡ check_status (driven_on state.now (time seconds fraction) ram.now icons.now).0 }
+    ensures leaves { out.new ≡ unless_refused (driven_on state.now (time seconds fraction) ram.now icons.now).0 (drive_words (driven_on state.now (time seconds fraction) ram.now icons.now).1.0) out.old }
+    ensures frames { frame.new ≡ unless_refused (driven_on state.now (time seconds fraction) ram.now icons.now).0 (driven_on state.now (time seconds fraction) ram.now icons.now).1.1 frame.old }
 {
-    ffi::look_words::nt7508_controller_drive(state, seconds, fraction, ram, icons, out, frame)
+    ffi::look_words::nt7508_controller_drive(
+        state,
+        Time { seconds, fraction },
+        Memory { ram, icons },
+        out,
+        frame,
+    )
 }
 
 #[unsafe(no_mangle)]
@@ -34,7 +43,7 @@ pub extern "C" fn nt7508_controller_render(
     ensures answers { result ≡ check_status (rendered_on state.now ram.now icons.now image.old).0 }
     ensures leaves { image.new ≡ (rendered_on state.now ram.now icons.now image.old).1 }
 {
-    ffi::look_words::nt7508_controller_render(state, ram, icons, image)
+    ffi::look_words::nt7508_controller_render(state, Memory { ram, icons }, image)
 }
 
 #[unsafe(no_mangle)]

@@ -5,6 +5,8 @@ ghost use Rattle.voltage.specs.Answers.{answer_of};
 ghost use Rattle.ffi.specs.Words.{status, stored};
 ghost use Rattle.ffi.specs.VoltageWords.{settings_of, supply_of, voltage_words, FinderAnswers};
 
+use voltage::Supply;
+
 #[unsafe(no_mangle)]
 pub extern "C" fn nt7508_settings_valid(settings: &[u8; 8]) -> bool
     ensures { result ≡ valid_settings (settings_of settings.now) }
@@ -24,7 +26,13 @@ pub extern "C" fn nt7508_voltages(
     ensures answers { result ≡ status (answer_of (settings_of settings.now) (supply_of millivolts temperature power_save waiting)) }
     ensures leaves { out.new ≡ stored voltage_words (answer_of (settings_of settings.now) (supply_of millivolts temperature power_save waiting)) out.old }
 {
-    ffi::voltage_words::nt7508_voltages(settings, millivolts, temperature, power_save, waiting, out)
+    let supply = Supply {
+        supply_millivolts: millivolts,
+        temperature_millicelsius: temperature,
+        power_save,
+        waiting,
+    };
+    ffi::voltage_words::nt7508_voltages(settings, supply, out)
 }
 
 #[unsafe(no_mangle)]

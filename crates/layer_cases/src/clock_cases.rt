@@ -4,7 +4,10 @@
 // is its last edge, its rate p/q (an LCD rate), the fraction, which counts p-ths of a fraction unit, and
 // the ordinal. The answers stand behind the |, which no line has.
 use checks::Numbered;
-use clock::{Clock, Rate, Refusal, Time, Wide};
+use clock::{Clock, Rate, Time};
+use ffi::clock_words::{
+    nt7508_clock_edges_to, nt7508_clock_moved, nt7508_clock_new, nt7508_time_from_micros,
+};
 use std::io;
 
 fn print_edges(rt: &impl Print, clock: Clock, rate: Rate, now: Time) -> io::Result<()> {
@@ -62,50 +65,33 @@ fn rate_of(w: &[u64; 108]) -> Rate {
     }
 }
 
-// The clock that starts as a line says, at.s at.f p q.
-fn new_clock(w: &[u64; 108]) -> Result<Clock, Refusal> {
+// The words of the clock that starts as a line says, at.s at.f p q.
+fn new_clock(w: &[u64; 108]) -> Option<[u64; 8]> {
     let at = Time {
         seconds: w[0],
         fraction: w[1],
     };
-    Clock::new(at, rate_of(w))
+    let mut clock = [0; 8];
+    (nt7508_clock_new(at, rate_of(w), &mut clock) == 0).then_some(clock)
 }
 
-// The clock of a line: at.s at.f p q fraction ordinal. Its period is that of its rate.
-fn clock_of(w: &[u64; 108]) -> Result<Clock, Refusal> {
-    Ok(Clock {
-        fraction: w[4],
-        ordinal: w[5],
-        ..new_clock(w)?
-    })
+// The words of the clock of a line: at.s at.f p q fraction ordinal. Its period is that of its rate.
+fn clock_of(w: &[u64; 108]) -> Option<[u64; 8]> {
+    let mut clock = new_clock(w)?;
+    clock[6..].copy_from_slice(&w[4..6]);
+    Some(clock)
 }
 
 // Kind 1: us | seconds fraction
 pub(crate) fn micros_agree(w: &[u64; 108]) -> bool {
-    Time::from_micros(w[0])
-        == Time {
-            seconds: w[1],
-            fraction: w[2],
-        }
+    let mut time = [0; 2];
+    nt7508_time_from_micros(w[0], &mut time);
+    time[..] == w[1..3]
 }
 
 // Kind 2: at.s at.f p q | whole.s whole.f remainder denominator fraction ordinal
 pub(crate) fn new_agrees(w: &[u64; 108]) -> bool {
-    new_clock(w)
-        == Ok(Clock {
-            at: Time {
-                seconds: w[0],
-                fraction: w[1],
-            },
-            whole: Wide {
-                high: w[4],
-                low: w[5],
-            },
-            remainder: w[6],
-            denominator: w[7],
-            fraction: w[8],
-            ordinal: w[9],
-        })
+    new_clock(w).is_some_and(|clock| (clock[..2] == w[..2]) & (clock[2..] == w[4..10]))
 }
 
 // Kind 3: a clock, now.s now.f | edges up to and including now
@@ -114,21 +100,21 @@ pub(crate) fn edges_agree(w: &[u64; 108]) -> bool {
         seconds: w[6],
         fraction: w[7],
     };
-    clock_of(w).and_then(|clock| clock.edges_to(rate_of(w), now)) == Ok(w[8])
+    let Some(clock) = clock_of(w) else {
+        return false;
+    };
+    let mut edges = 0;
+    (nt7508_clock_edges_to(&clock, rate_of(w), now, &mut edges) == 0) & (edges == w[8])
 }
 
 // Kind 4: a clock, edges | at.s at.f fraction ordinal of the clock moved by them
 pub(crate) fn moved_agrees(w: &[u64; 108]) -> bool {
-    clock_of(w).is_ok_and(|clock| {
-        clock.moved(rate_of(w), w[6])
-            == Ok(Clock {
-                at: Time {
-                    seconds: w[7],
-                    fraction: w[8],
-                },
-                fraction: w[9],
-                ordinal: w[10],
-                ..clock
-            })
-    })
+    let Some(before) = clock_of(w) else {
+        return false;
+    };
+    let mut clock = before;
+    (nt7508_clock_moved(&mut clock, rate_of(w), w[6]) == 0)
+        & (clock[..2] == w[7..9])
+        & (clock[2..6] == before[2..6])
+        & (clock[6..] == w[9..11])
 }

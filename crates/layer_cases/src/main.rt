@@ -11,7 +11,7 @@ mod scan_cases;
 mod voltage_cases;
 mod words;
 
-use replay::{Replayed, replay_file};
+use replay::{Cases, Replayed, replay_file};
 use std::io;
 
 // Whether ours answers as a case says. Kinds are numbers in the lists, and each is named where it is replayed.
@@ -27,20 +27,29 @@ fn agrees(kind: u64, w: &[u64; 108]) -> bool {
     }
 }
 
-// Replays the line at a place, if it holds a case.
-fn line_at(list: &[u8], at: usize) -> Option<Replayed> {
-    let mut w = [0u64; 108];
-    let case = replay::case_at(list, at, &mut w)?;
-    Some(Replayed {
-        next: case.next,
-        agrees: agrees(case.kind, &w),
-    })
+// The lines of a list: each is replayed by itself.
+#[derive(Drop)]
+struct Lines;
+
+impl Cases for Lines {
+    ghost use Rattle.std.specs.Prelude.{⊤};
+
+    ghost gives = { λ lines list answer left. ⊤ };
+
+    fn replay<'a>(&mut self, list: &'a [u8]) -> Option<Replayed<'a>> {
+        let mut w = [0u64; 108];
+        let case = replay::read_case(list, &mut w)?;
+        Some(Replayed {
+            rest: case.rest,
+            agrees: agrees(case.kind, &w),
+        })
+    }
 }
 
 fn main(rt: HostRuntime) -> io::Result<()> {
     clock_cases::figures(&rt)?;
-    replay_file(&rt, "clock", "line", line_at)?;
+    replay_file(&rt, "clock", "line", &mut Lines)?;
     voltage_cases::figures(&rt)?;
-    replay_file(&rt, "voltage", "line", line_at)?;
-    replay_file(&rt, "scan", "line", line_at)
+    replay_file(&rt, "voltage", "line", &mut Lines)?;
+    replay_file(&rt, "scan", "line", &mut Lines)
 }

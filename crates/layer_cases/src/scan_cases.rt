@@ -15,158 +15,77 @@
 //     target pump v0 v1 v2 v3 v4 (2^32 none); the sum of its electrodes, common n and segment n for n
 //     from 0 to 255; the sum of the image. A sum starts at 0, and each number x makes it
 //     (31 sum + x) mod 2^32.
-use crate::voltage_cases;
-use crate::words::{bytes_of, level_word};
-use clock::{Clock, Rate, Time, Wide};
-use replay::{added, fill, sum_of};
-use scan::{
-    Conditions, Counted, Driven, Frame, Inversion, Latch, LcdDrive, Scan, Settings, Ticking,
+use crate::words::bytes_of;
+use clock::Time;
+use ffi::drive_words::{
+    nt7508_scan_common_microvolts, nt7508_scan_drive, nt7508_scan_segment_microvolts,
 };
+use ffi::scan_words::{nt7508_scan_count_to, nt7508_scan_render};
+use replay::{added, fill, sum_of};
+use scan::{Conditions, Memory};
 use voltage::Supply;
 
-fn settings_of(b: [u8; 20]) -> Settings {
-    Settings {
-        start_line: b[0],
-        icon_enabled: b[1] != 0,
-        entire_on: b[2] != 0,
-        reverse: b[3] != 0,
-        segment_reverse: b[4] != 0,
-        common_reverse: b[5] != 0,
-        initial_com: b[6],
-        duty: b[7],
-        inversion_lines: b[8],
-        gray_mode: b[9],
-        palette: [b[10], b[11], b[12], b[13], b[14], b[15], b[16], b[17]],
-        oscillator_control: b[18],
-        oscillator_frequency: b[19],
-    }
+// What a line asks, memory apart.
+#[derive(Clone, Copy)]
+struct Request {
+    settings: [u8; 20],
+    analog: [u8; 8],
+    words: [u64; 13],
+    bytes: [u8; 14],
+    conditions: Conditions,
+    driven: bool,
+    moment: Time,
 }
 
-fn clock_of(w: &[u64; 108]) -> Option<Clock> {
-    (w[28] != 0).then_some(Clock {
-        at: Time {
-            seconds: w[29],
-            fraction: w[30],
+// What a line asks, if its fields can hold the numbers.
+fn request_of(w: &[u64; 108]) -> Option<Request> {
+    let mut words = [0; 13];
+    words.copy_from_slice(&w[28..41]);
+    Some(Request {
+        settings: bytes_of(&w[..20])?,
+        analog: bytes_of(&w[20..28])?,
+        words,
+        bytes: bytes_of(&w[41..55])?,
+        conditions: Conditions {
+            display_on: w[55] != 0,
+            oscillator_enabled: w[56] != 0,
+            supply: Supply {
+                supply_millivolts: u16::try_from(w[57]).ok()?,
+                temperature_millicelsius: i32::try_from(w[58]).ok()?,
+                power_save: w[59] != 0,
+                waiting: w[60] != 0,
+            },
         },
-        whole: Wide {
-            high: w[31],
-            low: w[32],
+        driven: w[61] != 0,
+        moment: Time {
+            seconds: w[64],
+            fraction: w[65],
         },
-        remainder: w[33],
-        denominator: w[34],
-        fraction: w[35],
-        ordinal: w[36],
     })
 }
 
-fn scan_of(w: &[u64; 108], b: [u8; 14]) -> Scan {
-    Scan {
-        ticking: Ticking {
-            clock: clock_of(w),
-            rate: Rate {
-                numerator: w[37],
-                denominator: w[38],
-            },
-        },
-        latch: Latch {
-            segments: [w[39], w[40]],
-            latched: b[13] != 0,
-        },
-        frame: Frame {
-            duty: b[0],
-            icon: b[1] != 0,
-            initial_com: b[2],
-            common_reverse: b[3] != 0,
-            start_line: b[4],
-            frc_count: b[6],
-        },
-        pwm: b[5],
-        row: b[7],
-        step: b[8],
-        frc: b[9],
-        inversion: Inversion {
-            lines: b[10],
-            count: b[11],
-            inverted: b[12] != 0,
-        },
-    }
-}
-
-fn moment_of(w: &[u64; 108]) -> Time {
-    Time {
-        seconds: w[64],
-        fraction: w[65],
-    }
-}
-
-// A clock that is stopped has 0 for each number.
-const NONE: Clock = Clock {
-    at: Time::ZERO,
-    whole: Wide { high: 0, low: 0 },
-    remainder: 0,
-    denominator: 0,
-    fraction: 0,
-    ordinal: 0,
-};
-
-// A scan as a line has it, its words and then its bytes.
-fn words_of(scan: Scan) -> [u64; 27] {
-    let clock = scan.ticking.clock.unwrap_or(NONE);
-    [
-        u64::from(scan.ticking.clock.is_some()),
-        clock.at.seconds,
-        clock.at.fraction,
-        clock.whole.high,
-        clock.whole.low,
-        clock.remainder,
-        clock.denominator,
-        clock.fraction,
-        clock.ordinal,
-        scan.ticking.rate.numerator,
-        scan.ticking.rate.denominator,
-        scan.latch.segments[0],
-        scan.latch.segments[1],
-        u64::from(scan.frame.duty),
-        u64::from(scan.frame.icon),
-        u64::from(scan.frame.initial_com),
-        u64::from(scan.frame.common_reverse),
-        u64::from(scan.frame.start_line),
-        u64::from(scan.pwm),
-        u64::from(scan.frame.frc_count),
-        u64::from(scan.row),
-        u64::from(scan.step),
-        u64::from(scan.frc),
-        u64::from(scan.inversion.lines),
-        u64::from(scan.inversion.count),
-        u64::from(scan.inversion.inverted),
-        u64::from(scan.latch.latched),
-    ]
-}
-
-fn count_agrees(scan: Scan, settings: Settings, w: &[u64; 108]) -> bool {
-    let Ok(Counted { scan, pieces }) = scan.count_to(settings, moment_of(w)) else {
-        return false;
-    };
-    (words_of(scan)[..] == w[66..93]) & (u64::from(pieces) == w[93])
-}
-
-// Whether a line has this drive as an answer.
-fn same_drive(drive: LcdDrive, w: &[u64; 108]) -> bool {
-    let electrodes = [
-        drive.common.map_or(129, u64::from),
-        drive.segments[0],
-        drive.segments[1],
-        u64::from(drive.inverted),
-        u64::from(drive.grounded),
-    ];
-    (electrodes[..] == w[94..99]) & (voltage_cases::words_of(drive.voltages)[..] == w[99..106])
+fn count_agrees(request: &Request, w: &[u64; 108]) -> bool {
+    let mut words = request.words;
+    let mut bytes = request.bytes;
+    let mut pieces = 0;
+    let number = nt7508_scan_count_to(
+        &request.settings,
+        &mut words,
+        &mut bytes,
+        request.moment,
+        &mut pieces,
+    );
+    (number == 0)
+        & (words[..] == w[66..79])
+        & (Some(bytes) == bytes_of(&w[79..93]))
+        & (u64::from(pieces) == w[93])
 }
 
 // The sum of commons and segments 0 to 255; beyond the last of either there is none.
-fn electrodes(drive: LcdDrive) -> u64 {
+fn electrodes(drive: &[u64; 12]) -> u64 {
     (0u8..=255).fold(0, |sum, n| {
-        let sum = added(sum, level_word(drive.common_microvolts(n)));
-        added(sum, level_word(drive.segment_microvolts(n)))
+        let sum = added(sum, nt7508_scan_common_microvolts(drive, n));
+        added(sum, nt7508_scan_segment_microvolts(drive, n))
     })
 }
 
@@ -179,57 +98,46 @@ fn frame_of(w: &[u64; 108]) -> u64 {
     pwm * (w[79] % 256)
 }
 
-fn conditions_of(w: &[u64; 108]) -> Option<Conditions> {
-    Some(Conditions {
-        display_on: w[55] != 0,
-        oscillator_enabled: w[56] != 0,
-        supply: Supply {
-            supply_millivolts: u16::try_from(w[57]).ok()?,
-            temperature_millicelsius: i32::try_from(w[58]).ok()?,
-            power_save: w[59] != 0,
-            waiting: w[60] != 0,
-        },
-    })
+fn drive_agrees(request: &Request, memory: Memory<'_>, w: &[u64; 108]) -> bool {
+    let mut drive = [0; 12];
+    let mut frame = 0;
+    let number = nt7508_scan_drive(
+        memory,
+        &request.words,
+        &request.bytes,
+        &request.settings,
+        &request.analog,
+        request.conditions,
+        request.moment,
+        &mut drive,
+        &mut frame,
+    );
+    (number == 0)
+        & (drive[..] == w[94..106])
+        & (u64::from(frame) == frame_of(w))
+        & (electrodes(&drive) == w[106])
 }
 
-fn drive_agrees(
-    scan: Scan,
-    settings: Settings,
-    analog: voltage::Settings,
-    conditions: Conditions,
-    ram: &[u8; 4096],
-    icons: &[u8; 256],
-    w: &[u64; 108],
-) -> bool {
-    let driven = scan::drive::drive(scan, settings, analog, conditions, moment_of(w), ram, icons);
-    let Ok(Driven { drive, frame }) = driven else {
+fn image_agrees(request: &Request, memory: Memory<'_>, w: &[u64; 108]) -> bool {
+    let mut image = [0; 6144];
+    let number = nt7508_scan_render(memory, &mut image, &request.settings, request.driven);
+    (number == 0) & (sum_of(&image) == w[107])
+}
+
+// Whether ours answers as a line says.
+pub(crate) fn agrees(w: &[u64; 108]) -> bool {
+    let Some(request) = request_of(w) else {
         return false;
     };
-    same_drive(drive, w) & (u64::from(frame) == frame_of(w)) & (electrodes(drive) == w[106])
-}
-
-fn image_agrees(settings: Settings, ram: &[u8; 4096], icons: &[u8; 256], w: &[u64; 108]) -> bool {
-    let mut image = [0u8; 6144];
-    scan::render(settings, w[61] != 0, ram, icons, &mut image).is_ok() && sum_of(&image) == w[107]
-}
-
-// Whether ours answers as a line says, if its fields can hold the numbers.
-fn answers(w: &[u64; 108]) -> Option<bool> {
-    let settings = settings_of(bytes_of(&w[..20])?);
-    let analog = voltage_cases::settings_of(bytes_of(&w[20..28])?);
-    let scan = scan_of(w, bytes_of(&w[41..55])?);
-    let conditions = conditions_of(w)?;
-    let mut ram = [0u8; 4096];
-    let mut icons = [0u8; 256];
+    let mut ram = [0; 4096];
+    let mut icons = [0; 256];
     fill(w[62], w[63], &mut ram);
     fill(w[62], w[63] % 251 + 1, &mut icons);
-    Some(
-        count_agrees(scan, settings, w)
-            & drive_agrees(scan, settings, analog, conditions, &ram, &icons, w)
-            & image_agrees(settings, &ram, &icons, w),
-    )
-}
-
-pub(crate) fn agrees(w: &[u64; 108]) -> bool {
-    answers(w) == Some(true)
+    let memory = Memory {
+        ram: &ram,
+        icons: &icons,
+    };
+    count_agrees(&request, w)
+        & drive_agrees(&request, memory, w)
+        & image_agrees(&request, memory, w)
 }

@@ -1,6 +1,7 @@
 // Cases of the voltages: what is answered in the cases P1 to P5 of document 01, 'Edge figures', some
 // answers of the setting finder, and one kind of lines.
-use crate::words::{bytes_of, level_word};
+use crate::words::bytes_of;
+use ffi::voltage_words::nt7508_voltages;
 use std::io;
 use voltage::finder::Pair;
 use voltage::{LcdVoltages, Settings, Supply};
@@ -85,55 +86,26 @@ pub(crate) fn figures(rt: &impl Print) -> io::Result<()> {
     find(rt, 4117000, 4116999)
 }
 
-// The settings of a line, in the order in which the original declares them.
-pub(crate) fn settings_of(b: [u8; 8]) -> Settings {
-    Settings {
-        contrast: b[0],
-        regulator: b[1],
-        power_control: b[2],
-        booster: b[3],
-        bias: b[4],
-        temperature_slope: b[5],
-        contrast_trim: b[6],
-        otp_control: b[7],
-    }
-}
-
-// Voltages as a line has them: target pump v0 v1 v2 v3 v4.
-pub(crate) fn words_of(v: LcdVoltages) -> [u64; 7] {
-    [
-        u64::from(v.target),
-        level_word(v.pump),
-        level_word(v.v0),
-        level_word(v.v1),
-        level_word(v.v2),
-        level_word(v.v3),
-        level_word(v.v4),
-    ]
-}
-
-// What a line asks, if its fields can hold the numbers.
-fn asked(w: &[u64; 108]) -> Option<(Settings, Supply)> {
-    let settings = settings_of(bytes_of(&w[..8])?);
-    let supply = Supply {
-        supply_millivolts: u16::try_from(w[8]).ok()?,
-        temperature_millicelsius: replay::temperature(u64::from(u32::try_from(w[9]).ok()?)),
-        power_save: flag_of(w[10])?,
-        waiting: flag_of(w[11])?,
-    };
-    Some((settings, supply))
-}
-
 // A yes is 1, and a no 0.
 fn flag_of(word: u64) -> Option<bool> {
     (word < 2).then_some(word == 1)
 }
 
+// The answer to what a line asks, if its fields can hold the numbers.
+fn answer(w: &[u64; 108]) -> Option<[u64; 7]> {
+    let settings = bytes_of(&w[..8])?;
+    let supply = Supply {
+        supply_millivolts: u16::try_from(w[8]).ok()?,
+        temperature_millicelsius: ffi::temperature_of(u64::from(u32::try_from(w[9]).ok()?)),
+        power_save: flag_of(w[10])?,
+        waiting: flag_of(w[11])?,
+    };
+    let mut out = [0; 7];
+    (nt7508_voltages(&settings, supply, &mut out) == 0).then_some(out)
+}
+
 // Kind 5: contrast regulator power_control booster bias slope trim otp, supply (mV) temperature
 // (millidegrees C, and 2^31) power_save waiting | target pump v0 v1 v2 v3 v4 (microvolts, 2^32 none)
 pub(crate) fn agrees(w: &[u64; 108]) -> bool {
-    let Some((settings, supply)) = asked(w) else {
-        return false;
-    };
-    voltage::voltages(settings, supply).is_ok_and(|v| words_of(v)[..] == w[12..19])
+    answer(w).is_some_and(|voltages| voltages[..] == w[12..19])
 }

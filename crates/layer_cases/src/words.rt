@@ -1,4 +1,4 @@
-// The numbers of a line as bytes, and levels as the numbers of a line.
+// The numbers of a line as bytes.
 
 // So many words as bytes, if each is one.
 pub(crate) fn bytes_of<const N: usize>(words: &[u64]) -> Option<[u8; N]> {
@@ -7,9 +7,4 @@ pub(crate) fn bytes_of<const N: usize>(words: &[u64]) -> Option<[u8; N]> {
         *byte = u8::try_from(word).ok()?;
     }
     Some(bytes)
-}
-
-// A level that there is not is 2^32 in a line.
-pub(crate) fn level_word(level: Option<u32>) -> u64 {
-    level.map_or(0x1_0000_0000, u64::from)
 }

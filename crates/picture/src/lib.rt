@@ -1,14 +1,15 @@
-// The panel at the end of a session as a PGM picture in lent bytes.
+// The panel at the end of a session as a PGM picture in lent bytes. These and the place in them stand side
+// by side, as in `decimal`'s print, which says why.
 #![tactic(auto)]
 
-ghost use Rattle.std.specs.Prelude.{◌≡◌, None, map};
-ghost use Rattle.controller.specs.Check.{check_state};
+ghost use Rattle.std.specs.Prelude.{◌≡◌, map};
 ghost use Rattle.decimal.specs.Print.{put};
 ghost use Rattle.picture.specs.Picture.{gray_of, picture_of, drawn, written};
 
-use checks::Numbered;
+use checks::{Checked, Numbered};
 use controller::Nt7508;
 use decimal::{put_byte, put_bytes};
+use scan::Memory;
 use session::put_refusal;
 
 // The bytes of a picture; a refusal's line has fewer.
@@ -32,14 +33,16 @@ fn put_grays(out: &mut [u8], at: usize, image: &[u8]) -> usize
     next
 }
 
-// Puts the picture of a controller and its memory at the start. A state that passes its checks is not
+// Puts the picture of a controller and its memory at the start. A state that passed its checks is not
 // refused an image.
-fn put_picture(state: Nt7508, ram: &[u8; 4096], icons: &[u8; 256], out: &mut [u8]) -> usize
-    requires { check_state state ≡ None }
-    ensures { (out.new, result) ≡ put (out.old, 0) (picture_of (record { state = state; ram = ram.now; icons = icons.now })) }
+fn put_picture(state: Checked<Nt7508>, ram: &[u8; 4096], icons: &[u8; 256], out: &mut [u8]) -> usize
+    ensures { (out.new, result) ≡ put (out.old, 0) (picture_of (record { state = state.value; ram = ram.now; icons = icons.now })) }
 {
     let mut image = [0u8; 6144];
-    state.render(ram, icons, &mut image).unwrap();
+    state
+        .value
+        .render(Memory { ram, icons }, &mut image)
+        .unwrap();
     let at = put_bytes(out, 0, b"P5\n96 64\n255\n");
     put_grays(out, at, &image)
 }
@@ -54,7 +57,7 @@ pub fn draw(text: &[u8], out: &mut [u8; LENGTH]) -> usize
     let mut listing = [0u8; 589824];
     let ended = session::run(text, &mut ram, &mut icons, &mut listing);
     match ended.end {
-        Ok(()) => put_picture(ended.state, &ram, &icons, out),
+        Ok(()) => put_picture(Checked { value: ended.state }, &ram, &icons, out),
         Err(stop) => put_refusal(out, 0, stop.why.number(), stop.line),
     }
 }

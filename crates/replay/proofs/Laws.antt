@@ -1,9 +1,9 @@
--- Remainders, and numbers of 32 bits less 2^31.
-use Rattle.std.proofs.Common.{◌≡◌, ℕ, suc, ◌+◌, ◌-◌, ◌*◌, ◌/◌, ◌%◌, ◌^◌, ◌<◌, ◌≤◌, Bool, true, false, cond, ltb, List, set, pos, negsuc, ◌-ℤ◌, sym, refl, ap, ◌∙◌, arith, w32, SFits, ltb-true}
+-- Remainders, memory by two numbers, and the tally.
+use Rattle.std.proofs.Common.{◌≡◌, ℕ, suc, ◌+◌, ◌*◌, ◌/◌, ◌%◌, ◌^◌, ◌<◌, ◌≤◌, Bool, true, false, List, set, sym, ap, ◌∙◌, arith}
 use lib.Arith.{digits_mod}
 use Rattle.replay.specs.declared.tally.Tally.{Tally}
 use Rattle.replay.specs.Tally.{counted}
-use Rattle.replay.specs.Rules.{added, byte_at, filled_to, temperature_of}
+use Rattle.replay.specs.Rules.{added, byte_at, filled_to}
 
 one_more_lem : (n : ℕ) → n + 1 ≡ suc n
 one_more_lem n = omega arith
@@ -28,20 +28,9 @@ pub filled_next : (n step first : ℕ) (memory : List ℕ) → filled_to (n + 1)
 unfolding filled_to
 filled_next n step first memory = ap (λ (m : ℕ). filled_to m step first memory) (one_more_lem n)
 
--- a number of 32 bits less 2^31 fits an i32
-lowered : (n : ℕ) → n < 2 ^ 32 → SFits w32 (pos n -ℤ pos 2147483648)
-lowered n h = go (ltb n 2147483648) refl
-  where
-    go : (t : Bool) → ltb n 2147483648 ≡ t → SFits w32 (cond t (negsuc (2147483648 - suc n)) (pos (n - 2147483648)))
-    go true k =
-        let below : n < 2147483648 = ltb-true n 2147483648 k in
-        record { sfits = omega arith }
-    go false k = record { sfits = omega (arith, h) }
-
-pub temperature_fits : (word : ℕ) → SFits w32 (temperature_of word)
-temperature_fits word = lowered (word % 2 ^ 32) (omega arith)
-
 -- a case more, of which there are no more than n
-pub counted_within : (t : Tally) (next : ℕ) (agrees : Bool) {n : ℕ} → n + 1 < 2 ^ 64 → t.cases ≤ n → t.differ ≤ t.cases → ((counted t next agrees).cases ≤ n + 1) × ((counted t next agrees).differ ≤ (counted t next agrees).cases)
-counted_within t next true h few fewer = (omega arith, omega arith)
-counted_within t next false h few fewer = (omega arith, omega arith)
+pub counted_within :
+    (t : Tally) (agrees : Bool) {n : ℕ} → n + 1 < 2 ^ 64 → t.cases ≤ n → t.differ ≤ t.cases
+    → ((counted t agrees).cases ≡ t.cases + 1) × ((counted t agrees).differ ≤ (counted t agrees).cases)
+counted_within t true h few fewer = (omega arith, omega arith)
+counted_within t false h few fewer = (omega arith, omega arith)

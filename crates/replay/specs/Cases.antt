@@ -1,8 +1,18 @@
 -- A line of a list is a case: its kind, then its numbers, as many as the kind has.
 use Rattle.std.specs.Prelude.{ℕ, cond, List, [], ◌∷◌, ◌++◌, length, take, drop, ◌==◌, nat_lt, slice_index, Option, Some, None}
-use Rattle.decimal.specs.declared.Read.{Read}
+use Rattle.decimal.specs.Decimal.{Read}
 use Rattle.decimal.specs.Decimal.{field_at, line_at}
-use Rattle.replay.specs.declared.cases.Case.{Case}
+use Rattle.replay.specs.declared.cases.Case as lent
+
+-- the kind of a case, and the place of the next line
+pub record Case : Type 0 where
+  pub kind : ℕ
+  pub next : ℕ
+
+-- what is read of a text's start: the kind, and what follows
+abbrev pub case_view : Option lent.Case → Option (ℕ × List ℕ)
+case_view None = None
+case_view (Some case) = Some (case.kind, case.rest.now)
 
 -- how many numbers a case has, by its kind from 1 on; 0 for no kind
 unfoldable pub length_of : ℕ → ℕ
@@ -30,3 +40,15 @@ kind_in (Some kind) text w = numbers_in kind.value (length_of kind.value) text k
 -- the case of the line at a place, and what w holds after it
 unfoldable pub case_at : List ℕ → ℕ → List ℕ → Option Case × List ℕ
 case_at text at w = kind_in (field_at text at 32) text w
+
+-- the case that a text starts with, what follows it, and what w holds after it
+abbrev pub behind : List ℕ → Option Case → Option (ℕ × List ℕ)
+behind text None = None
+behind text (Some case) = Some (case.kind, drop case.next text)
+
+unfoldable pub case_in : List ℕ → List ℕ → Option (ℕ × List ℕ) × List ℕ
+case_in text w = let r = case_at text 0 w in (behind text r.0, r.1)
+
+-- how many numbers a kind's cases have; no case has 0
+abbrev pub count_of : ℕ → Option ℕ
+count_of kind = cond (length_of kind == 0) None (Some (length_of kind))

@@ -1,5 +1,5 @@
 -- The rules of a list.
-use Rattle.std.specs.Prelude.{ℕ, zero, suc, ◌+◌, ◌*◌, ◌/◌, ◌%◌, ◌^◌, List, length, ℤ, pos, ◌-ℤ◌, fold, slice_set}
+use Rattle.std.specs.Prelude.{ℕ, zero, suc, ◌+◌, ◌*◌, ◌/◌, ◌%◌, List, length, fold, slice_set}
 
 -- one number more in a sum
 abbrev pub added : (sum x : ℕ) → ℕ
@@ -27,7 +27,3 @@ filled_to (suc n) step first memory = slice_set (filled_to n step first memory) 
 
 unfoldable pub filled : (step first : ℕ) → List ℕ → List ℕ
 filled step first memory = filled_to (length memory) step first memory
-
--- a temperature has 2^31 added to it
-abbrev pub temperature_of : ℕ → ℤ
-temperature_of word = pos (word % 2 ^ 32) -ℤ pos 2147483648

@@ -1,40 +1,35 @@
 // A line of a list is a case: its kind, then its numbers, as many as the kind has.
-ghost use Rattle.std.specs.Prelude.{◌≡◌};
-ghost use Rattle.replay.specs.Cases.{length_of, case_at};
+ghost use Rattle.std.specs.Prelude.{◌≡◌, ◌<◌, length, IfSome};
+ghost use Rattle.replay.specs.Cases.{count_of, case_view, case_in};
 
-// The kind of a case, and the place of the next line.
+use decimal::Read;
+
+// The kind of a case, and what follows its line.
 #[derive(Clone, Copy, Debug, PartialEq, Eq)]
-pub struct Case {
+pub struct Case<'a> {
     pub kind: u64,
-    pub next: usize,
+    pub rest: &'a [u8],
 }
 
 // How many numbers a case has, by its kind from 1 on.
-const LENGTHS: [usize; 9] = [0, 3, 10, 9, 11, 19, 108, 77, 10];
+const COUNTS: [usize; 8] = [3, 10, 9, 11, 19, 108, 77, 10];
 
-// No case has 0 numbers.
-#[tactic(auto, unfolding(crate::specs::Cases::length_of))]
-fn length_of(kind: u64) -> usize
-    ensures { result ≡ length_of kind }
+fn count_of(kind: u64) -> Option<usize>
+    ensures { result ≡ count_of kind }
 {
-    LENGTHS.get(kind as usize).copied().unwrap_or(0)
+    COUNTS.get(kind.checked_sub(1)? as usize).copied()
 }
 
-// Reads the case of the line at a place, if it holds one. Its numbers go to the first words of `w`.
-pub fn case_at(text: &[u8], at: usize, w: &mut [u64]) -> Option<Case>
-    ensures { (result, w.new) ≡ case_at text.now at w.old }
+// Reads the case that a text starts with, if there is one. Its numbers go to the first words of `w`.
+pub fn read_case<'a>(text: &'a [u8], w: &mut [u64]) -> Option<Case<'a>>
+    ensures case { (case_view result, w.new) ≡ case_in text.now w.old }
+    ensures shorter { IfSome result (λ case. length case.rest.now < length text.now) }
 {
-    let kind = decimal::field(text, at, b' ')?;
-    let n = length_of(kind.value);
-    if n == 0 {
+    let Read { value: kind, rest } = decimal::field(text, b' ')?;
+    let count = count_of(kind)?;
+    if w.len() < count {
         return None;
     }
-    if w.len() < n {
-        return None;
-    }
-    let next = decimal::read_line(text, kind.next, &mut w[..n])?;
-    Some(Case {
-        kind: kind.value,
-        next,
-    })
+    let rest = decimal::read_line(rest, &mut w[..count])?;
+    Some(Case { kind, rest })
 }

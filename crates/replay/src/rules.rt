@@ -1,7 +1,6 @@
-// The rules of a list: memory stands there as two numbers, a long answer as its sum, and a temperature
-// with 2^31 added to it.
+// The rules of a list: memory stands there as two numbers, and a long answer as its sum.
 ghost use Rattle.std.specs.Prelude.{◌≡◌};
-ghost use Rattle.replay.specs.Rules.{added as added_to, sum_of, sum_of_words, filled, temperature_of};
+ghost use Rattle.replay.specs.Rules.{added as added_to, sum_of, sum_of_words, filled};
 
 // One number more in a sum.
 pub fn added(sum: u64, x: u64) -> u64
@@ -37,10 +36,4 @@ pub fn fill(step: u64, first: u64, memory: &mut [u8])
         *byte = value as u8;
         value = (value + step % 251) % 251;
     }
-}
-
-pub fn temperature(word: u64) -> i32
-    ensures { result ≡ temperature_of word }
-{
-    ((word % 4294967296) as i64 - 2147483648) as i32
 }

@@ -1,11 +1,10 @@
-// How far a list is replayed.
+// How many cases of a list are replayed.
 ghost use Rattle.std.specs.Prelude.{◌≡◌};
-ghost use Rattle.replay.specs.Tally.{more as more_than, started, counted as counted_case, ended as ended_at};
+ghost use Rattle.replay.specs.Tally.{more as more_than, started, counted as counted_case};
 
-// The place of the next case, how many cases there were before it, and how many of them differ.
+// How many cases there were, and how many of them differ.
 #[derive(Clone, Copy, Debug, PartialEq, Eq)]
 pub struct Tally {
-    pub at: usize,
     pub cases: u64,
     pub differ: u64,
 }
@@ -21,18 +20,16 @@ impl Tally {
         ensures { result ≡ started }
     {
         Self {
-            at: 0,
             cases: 0,
             differ: 0,
         }
     }
 
-    // After a case that agrees or differs, and the place behind it.
-    pub fn counted(self, next: usize, agrees: bool) -> Self
-        ensures { result ≡ counted_case self next agrees }
+    // After a case that agrees or differs.
+    pub fn counted(self, agrees: bool) -> Self
+        ensures { result ≡ counted_case self agrees }
     {
         Self {
-            at: next,
             cases: more(self.cases),
             differ: if agrees {
                 self.differ
@@ -40,12 +37,5 @@ impl Tally {
                 more(self.differ)
             },
         }
-    }
-
-    // Where there is no case: nothing behind it is read.
-    pub fn ended(self, end: usize) -> Self
-        ensures { result ≡ ended_at self end }
-    {
-        Self { at: end, ..self }
     }
 }

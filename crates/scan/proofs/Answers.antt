@@ -2,10 +2,11 @@
 use Rattle.std.proofs.Common.{◌≡◌, ℕ, ◌≤◌, Bool, true, ◌&&◌, List, length, ap, sym, ◌∙◌}
 use Rattle.std.specs.Prelude.{Option, Some, None, Result, Ok, Err, ⊤}
 use Rattle.checks.specs.Checks.{changed}
-use Rattle.checks.proofs.Chains.{never}
+use Rattle.checks.proofs.Chains.{never, row_passed}
 use Rattle.checks.proofs.Results.{refused_at_err, ok_from_left}
 use Rattle.clock.specs.declared.time.Time.{Time}
 use Rattle.clock.specs.Time.{in_range}
+use Rattle.clock.specs.Check.{time_row}
 use Rattle.voltage.specs.Voltage.{voltages}
 use Rattle.scan.specs.declared.settings.Settings.{Settings}
 use Rattle.scan.specs.declared.state.Scan.{Scan}
@@ -14,14 +15,15 @@ use Rattle.scan.specs.declared.count.Counted.{Counted}
 use Rattle.scan.specs.declared.check.Refusal.{Refusal}
 use Rattle.scan.specs.declared.drive.Conditions.{Conditions}
 use Rattle.scan.specs.declared.drive.Driven.{Driven}
-use Rattle.scan.specs.Check.{number, refused, answered, valid_settings, check_moment, check_lent, check_image, check_but_clock}
+use Rattle.scan.specs.Check.{number, refused, answered, valid_settings, settings_row, check_scan, check_moment, check_lent, check_image, check_but_clock}
 use Rattle.scan.specs.Count.{count_to, pieces, answered_count, count_scan}
 use Rattle.scan.specs.Stretch.{count_clock}
 use Rattle.scan.specs.Latch.{retained}
 use Rattle.scan.specs.Run.{stopped, resumed, updated, before_byte, after_byte, fall_scan, rise_scan}
 use Rattle.scan.specs.Drive.{drive_at, frame_at, off, answered_drive, drive_scan}
 use Rattle.scan.specs.Image.{image, rendered}
-use Rattle.scan.proofs.Checks.{Valid, ValidSettings, passes, passed_answer, refused_answer, but_clock_refused, but_clock_passed}
+use Rattle.scan.proofs.Counting.{count_to_valid}
+use Rattle.scan.proofs.Checks.{Valid, ValidSettings, valid_scan_lem, valid_check, valid_settings_lem, timed_check, passes, passed_answer, refused_answer, but_clock_refused, but_clock_passed}
 use Rattle.scan.proofs.Stages.{at_most_four}
 use Rattle.voltage.specs.declared.Settings as analog
 use Rattle.voltage.specs.Check as analogs
@@ -109,3 +111,13 @@ pieces_few x s now v vs i = at_most_four s vs now i x v
 pub render_passed : (s : Settings) (driven : Bool) (ram icons before : List ℕ) → check_image s ram icons (length before) ≡ None → rendered s driven ram icons before ≡ image s driven ram
 unfolding rendered
 render_passed s driven ram icons before h = rw h
+
+-- counting what passed its checks, by their rows of the table
+module _ (x : Scan) (s : Settings) (now : Time) (scan : check_scan x ≡ None) (settings : settings_row s ≡ None) (time : time_row now ≡ None) where
+  pub count_checked : {r : Result Counted Refusal} → answered_count x r ≡ count_scan x s now → r ≡ Ok (record { scan = count_to x s now; pieces = pieces x s now })
+  count_checked {r} e =
+      count_passed x s now r e (timed_check x (valid_settings s) now (record { in_range_lem = row_passed 1 _ time; settings_ok_lem = row_passed 3 _ settings; scan_passed = scan }))
+
+  pub count_to_checked : check_scan (count_to x s now) ≡ None
+  count_to_checked =
+      valid_check (count_to x s now) (count_to_valid s (valid_settings_lem s (row_passed 3 _ settings)) now (row_passed 1 _ time) x (valid_scan_lem x scan))

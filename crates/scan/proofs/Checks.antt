@@ -327,3 +327,17 @@ module _ {A : Type 0} {check : Result A Refusal} (x : Scan) (ok : Bool) (now : T
 pub ruleset timed_facts = (timed_range, timed_settings, timed_scan)
 
 pub ruleset lent_facts = (lent_range, lent_settings, lent_scan, lent_ram, lent_icons)
+
+-- past number 4, what is left of a scan's check is its clock's
+module _ (x : Scan) {k : Option ℕ} where
+  pub scan_by_clock : (valid_scan x ≡ true → k ≡ check_scan x) → first_of (row 4 (valid_scan x)) k ≡ check_scan x
+  unfolding check_scan
+  scan_by_clock h = go (valid_scan x) h
+    where
+      go : (t : Bool) → (t ≡ true → k ≡ first_of (row 4 t) (row 5 (valid_running x.ticking.clock x.ticking.rate))) → first_of (row 4 t) k ≡ first_of (row 4 t) (row 5 (valid_running x.ticking.clock x.ticking.rate))
+      go true h = h refl
+      go false h = refl
+
+-- a value that passes, for `Checked`
+pub row_holds : (n : ℕ) {ok : Bool} → ok ≡ true → row n ok ≡ None
+row_holds n h = rw h

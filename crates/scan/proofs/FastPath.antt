@@ -3,7 +3,9 @@
 use Rattle.std.proofs.Common.{◌≡◌, ℕ, zero, suc, ◌+◌, ◌%◌, ◌^◌, ◌≤◌, min, Bool, true, false, cond, not, ◌&&◌, ◌||◌, List, sym, refl, ap, ◌∙◌, arith, le-ltb, lt-ltb}
 use mathlib.Core.Bool.{false≢true}
 use Rattle.std.specs.Prelude.{Option, Some, None, Result, Ok, Err}
-use Rattle.checks.specs.Checks.{unless_refused}
+use Rattle.checks.specs.Checks.{row, unless_refused}
+use Rattle.checks.proofs.Chains.{never, row_passed}
+use Rattle.checks.proofs.Results.{refused_at_err}
 use Rattle.checks.proofs.Tests.{both}
 use Rattle.clock.specs.declared.time.Time.{Time}
 use Rattle.clock.specs.declared.check.Refusal.{Refusal}
@@ -13,10 +15,11 @@ use Rattle.clock.specs.Check.{valid_clock, check_clock}
 use Rattle.clock.specs.Edges.{answered_pass, moved_by, edges_to, pass_edges}
 use Rattle.clock.specs.Time.{in_range}
 use Rattle.clock.proofs.Rates.{same_refl}
+use Rattle.scan.specs.declared.check.Refusal as scans
 use Rattle.scan.specs.declared.settings.Settings.{Settings}
 use Rattle.scan.specs.declared.state.Scan.{Scan}
 use Rattle.scan.specs.declared.run.Running.{Running}
-use Rattle.scan.specs.Check.{valid_settings, valid_scan, valid_running, check_scan, memory_ok, in_order, check_lent}
+use Rattle.scan.specs.Check.{number, refused, memory_row, valid_settings, valid_scan, valid_running, check_scan, memory_ok, in_order, check_lent}
 use Rattle.scan.specs.Count.{due, count_to, piece, rate_same, row_same, frame_same}
 use Rattle.scan.specs.Latch.{latched_row, affects, latch_retained, retained}
 use Rattle.scan.specs.State.{rows, with_latch}
@@ -25,7 +28,7 @@ use Rattle.scan.specs.Closed.{closed, ticked_by, ended_rows, ended_frames}
 use Rattle.scan.specs.Stretch.{limit_in, edges_in}
 use Rattle.scan.specs.Byte.{stays_shown, settled}
 use Rattle.scan.specs.Fast.{checks_pass, one_count, counted_fast, is_fast, fast_byte, onward, rows_on, moved_on, in_force}
-use Rattle.scan.proofs.Checks.{Valid, Lent, lent, valid_lcd, valid_scan_lem, valid_settings_lem, check_by}
+use Rattle.scan.proofs.Checks.{Valid, Lent, lent, passes as passes_if, valid_lcd, valid_scan_lem, valid_settings_lem, check_by}
 use Rattle.scan.proofs.Drives.{counted_passes}
 use Rattle.scan.proofs.Due.{due_stopped, counted_none}
 use Rattle.scan.proofs.Leaves.{lasting, moved_lasts, retained_lasts}
@@ -293,3 +296,21 @@ module _ (x : Scan) (s : Settings) (now : Time) (running : Running) (ram icons :
 
   pub fast_lasts : (page : Option ℕ) → lasting (byte_scan x s s now page running ram icons).1 ≡ lasting x
   fast_lasts page = ap lasting (fast_scan_after x s now running ram icons u page) ∙ retained_lasts (count_to x s now) s page ram icons ∙ counted_lasts
+
+-- its checks, as the code asks them: the memory by itself, then the others
+row_fails : (n : ℕ) (ok : Bool) {m : ℕ} → row n ok ≡ Some m → ok ≡ false
+row_fails n true h = absurd (never (sym h))
+row_fails n false h = refl
+
+module _ (x : Scan) (s : Settings) (now : Time) (ram icons : List ℕ) {A : Type 0} {r : Result A scans.Refusal} (e : refused r ≡ memory_row ram icons) where
+  pub unlent : {why : scans.Refusal} → r ≡ Err why → checks_pass x s now ram icons ≡ false
+  unfolding checks_pass
+  unlent h = rw (row_fails 2 (memory_ok ram icons) (refused_at_err number r e h))
+
+  pub others_pass : {a : A} → r ≡ Ok a → {rest : Bool} → rest ≡ in_range now && valid_settings s && valid_scan x → rest ≡ checks_pass x s now ram icons
+  unfolding checks_pass
+  others_pass h q = q ∙ rw (row_passed 2 (memory_ok ram icons) (passes_if e h))
+
+pub not_shown : (x : Scan) (s : Settings) (page : Option ℕ) (ram icons : List ℕ) → stays_shown x page ≡ false → latch_retained x s ram icons ≡ retained x s page ram icons
+unfolding retained
+not_shown x s page ram icons h = rw h

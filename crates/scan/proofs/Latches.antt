@@ -1,5 +1,5 @@
 -- The latch: what its words hold, what it depends on, and that keeping it or writing elsewhere changes nothing that is shown.
-use Rattle.std.proofs.Common.{◌≡◌, ℕ, zero, suc, ◌+◌, ◌-◌, ◌*◌, ◌/◌, ◌%◌, ◌^◌, ◌<◌, ◌≤◌, Bool, true, false, cond, not, ◌&&◌, ◌||◌, eqb, ltb, Option, Some, None, List, length, get_or, take, drop, set, sym, refl, ap, ◌∙◌, ⊎_elim, add-zero, pow-suc, one-add, arith, length-drop, length-take-le, drop-set-lt, shr-shr, ltb-false, ltb-true, ne_eqb, eqb-true}
+use Rattle.std.proofs.Common.{◌≡◌, ℕ, zero, suc, ◌+◌, ◌-◌, ◌*◌, ◌/◌, ◌%◌, ◌^◌, ◌<◌, ◌≤◌, Bool, true, false, cond, not, ◌&&◌, ◌||◌, eqb, ltb, Option, Some, None, List, [], ◌∷◌, length, get_or, take, drop, set, sym, refl, ap, ◌∙◌, ⊎_elim, add-zero, pow-suc, one-add, arith, length-drop, length-take-le, drop-set-lt, shr-shr, ltb-false, ltb-true, ne_eqb, eqb-true}
 use mathlib.Core.Bool.{or-true}
 use lib.Seq.{drop-set-add, take-set-le}
 use borrow.Author.Tests.{eqb-false}
@@ -7,14 +7,15 @@ use Rattle.checks.proofs.Tests.{either}
 use Rattle.scan.specs.declared.settings.Settings.{Settings}
 use Rattle.scan.specs.declared.state.Scan.{Scan}
 use Rattle.scan.specs.Check.{frc_count_ok, valid_scan, check_scan}
-use Rattle.scan.specs.Planes.{row_bits, AreBits, shown_shade}
+use Rattle.scan.specs.Planes.{row_bits, AreBits, planes_in, shown_shade}
 use Rattle.scan.specs.Segments.{active_shades, row_active, bits_at, row_words}
 use Rattle.scan.specs.Latch.{latched_row, shade_active, segment_active, bit, word, words, present_latch, shown, affects, latch_retained, retained}
 use Rattle.scan.specs.Quantum.{quantum}
-use Rattle.scan.specs.Shade.{column_of, planes, shade_of, page_of, shade_at, pulse_width}
+use Rattle.scan.specs.Shade.{column_of, bit_of, planes, shade_of, page_of, shade_at, pulse_width}
 use Rattle.scan.specs.State.{with_latch}
 use Rattle.scan.proofs.Checks.{valid_scan_lem}
-use Rattle.scan.proofs.Shades.{are_bits, planes_in_lem}
+use Rattle.scan.proofs.Rows.{get_d_up_to}
+use Rattle.scan.proofs.Shades.{are_bits}
 
 -- the activity of what two planes show, and so of a row's segments from its bits
 active_at : (x : Scan) (s : Settings) (n : ℕ) → n < 4 → get_or (active_shades x s) n false ≡ shade_active x s (shown_shade s n)
@@ -24,11 +25,33 @@ active_at x s (suc (suc zero)) h = refl
 active_at x s (suc (suc (suc zero))) h = refl
 active_at x s (suc (suc (suc (suc n)))) h = absurd (omega arith)
 
-active_read : (x : Scan) (s : Settings) (part : List ℕ) (place : ℕ) → length part ≡ 256 → (k : ℕ) → row_active (active_shades x s) (row_bits part place) s.segment_reverse k ≡ shade_active x s (shade_of s part place k)
+-- of the 128 segments of a row, whatever the length of its part
+column_lt : (reversed : Bool) (k : ℕ) → k < 128 → column_of reversed k < 128
+column_lt true k h = omega arith
+column_lt false k h = h
+
+bit_read : (part : List ℕ) (place k : ℕ) → k < 256 → get_or (row_bits part place) k 0 ≡ bit_of (get_or part k 0) place
+unfolding row_bits
+bit_read part place k h = get_d_up_to (λ (i : ℕ). bit_of (get_or part i 0) place) 256 k h
+
+planes_read : (part : List ℕ) (place column : ℕ) → column < 128 → planes_in (row_bits part place) column ≡ planes part place column
+planes_read part place column h =
+    λ i. 2 * bit_read part place (2 * column) (omega arith) i + bit_read part place (2 * column + 1) (omega arith) i
+
+active_read : (x : Scan) (s : Settings) (part : List ℕ) (place k : ℕ) → k < 128 → row_active (active_shades x s) (row_bits part place) s.segment_reverse k ≡ shade_active x s (shade_of s part place k)
 unfolding shade_of
-active_read x s part place whole k =
+active_read x s part place k h =
     let column = column_of s.segment_reverse k in
-    ap (λ (n : ℕ). get_or (active_shades x s) n false) (planes_in_lem part place whole column) ∙ active_at x s (planes part place column) (omega arith)
+    ap (λ (n : ℕ). get_or (active_shades x s) n false) (planes_read part place column (column_lt s.segment_reverse k h)) ∙ active_at x s (planes part place column) (omega arith)
+
+-- segments that agree make the same words
+word_same : (f g : ℕ → Bool) (at n : ℕ) → ((k : ℕ) → k < at + n → f k ≡ g k) → word f at n ≡ word g at n
+unfolding word
+word_same f g at zero h = refl
+word_same f g at (suc n) h = λ i. bit (h at (omega arith) i) + 2 * word_same f g (at + 1) n (λ k l. h k (omega arith)) i
+
+words_same : (f g : ℕ → Bool) → ((k : ℕ) → k < 128 → f k ≡ g k) → words f ≡ words g
+words_same f g h = λ i. word_same f g 0 64 (λ k l. h k (omega arith)) i ∷ word_same f g 64 64 (λ k l. h k (omega arith)) i ∷ []
 
 bit_le : (on : Bool) → bit on ≤ 1
 bit_le true = omega arith
@@ -120,20 +143,16 @@ bits_at_lem row ram icons l whole icons_whole = go (eqb row 128) refl
     go true h = are_bits icons 0 icons_whole
     go false h = are_bits (page_of ram (row / 8)) (row % 8) (page_length ram row whole l (eqb-false row 128 h))
 
-module _ (x : Scan) (s : Settings) (ram icons : List ℕ) (whole : length ram ≡ 4096) (icons_whole : length icons ≡ 256) where
+module _ (x : Scan) (s : Settings) (ram icons : List ℕ) where
   from_bits : row_words (latched_row x) (active_shades x s) s.segment_reverse ram icons ≡ present_latch x s ram icons
   from_bits = go (eqb (latched_row x) 128) refl
     where
       go : (t : Bool) → eqb (latched_row x) 128 ≡ t
           → words (row_active (active_shades x s) (cond t (row_bits icons 0) (row_bits (page_of ram (latched_row x / 8)) (latched_row x % 8))) s.segment_reverse) ≡ present_latch x s ram icons
-      go true h =
-          (λ i. words (λ (k : ℕ). active_read x s icons 0 icons_whole k i))
-          ∙ latch_of_icons x s ram icons (eqb-true (latched_row x) 128 h)
+      go true h = words_same _ _ (λ k l. active_read x s icons 0 k l) ∙ latch_of_icons x s ram icons (eqb-true (latched_row x) 128 h)
       go false h =
-          let other = eqb-false (latched_row x) 128 h in
-          let page = page_length ram (latched_row x) whole (row_le x) other in
-          (λ i. words (λ (k : ℕ). active_read x s (page_of ram (latched_row x / 8)) (latched_row x % 8) page k i))
-          ∙ latch_of_ram x s ram icons (latched_row x) 256 refl other refl
+          words_same _ _ (λ k l. active_read x s (page_of ram (latched_row x / 8)) (latched_row x % 8) k l)
+          ∙ latch_of_ram x s ram icons (latched_row x) 256 refl (eqb-false (latched_row x) 128 h) refl
 
   -- the latch as the code makes it: from a row's bits, and from the activity of what two of them show
   pub latch_by : {row : ℕ} {active : List Bool} → row ≡ latched_row x → active ≡ active_shades x s → row_words row active s.segment_reverse ram icons ≡ present_latch x s ram icons

@@ -1,5 +1,5 @@
 -- Quotient and remainder of the next number, the parity of a count of flips, and picks by a test against 0.
-use Rattle.std.proofs.Common.{◌≡◌, ℕ, ◌+◌, ◌-◌, ◌*◌, ◌/◌, ◌%◌, ◌^◌, ◌<◌, ◌≤◌, Bool, true, false, cond, not, eqb, leb, ◌⊎◌, sym, refl, ap, ◌∙◌, inl, inr, add-zero, add_assoc, mod-lt, mod-eq_of_lt, add-mul, mul-le-mul, div-add-mod', div-le_self, arith, eq-eqb, ne_eqb, eqb-true, leb-false, leb-true}
+use Rattle.std.proofs.Common.{◌≡◌, ℕ, ◌+◌, ◌-◌, ◌*◌, ◌/◌, ◌%◌, ◌<◌, ◌≤◌, Bool, true, false, cond, not, eqb, leb, ◌⊎◌, sym, refl, ap, ◌∙◌, inl, inr, add-zero, add_assoc, mod-lt, mod-eq_of_lt, add-mul, mul-le-mul, div-add-mod', arith, eq-eqb, ne_eqb, eqb-true, leb-false, leb-true}
 use mathlib.Core.Bool.{beq, not-not, false≢true}
 use native.Mathlib.Nat.{mod-add-mod, div-eq_of_lt}
 use lib.Arith.{digits_div, digits_mod}
@@ -135,18 +135,6 @@ beq_refl false = refl
 pub mod_fits : (a b : ℕ) → 0 < b → b ≤ 256 → a % b < 256
 mod_fits a b z h = omega (arith, mod-lt a z)
 
-pub div_small : (a b : ℕ) → a < 2 ^ 51 → a / b < 2 ^ 51
-div_small a b h = omega (arith, div-le_self a b)
-
-pub product_fits : (a b : ℕ) → a ≤ 256 → b < 256 → a * b < 2 ^ 64
-product_fits a b h k = omega (arith, mul-le-mul {n₁ = a} {m₁ = b} {n₂ = 256} {m₂ = 256} h (omega arith))
-
 -- a row that is left has as many quanta as PWM
 pub row_left : (rows row pwm : ℕ) → row < rows → pwm ≤ (rows - row) * pwm
 row_left rows row pwm h = omega (arith, mul-le-mul {n₁ = 1} {m₁ = pwm} {n₂ = rows - row} {m₂ = pwm} (omega arith) (omega arith))
-
-pub ended_fits : (r a b : ℕ) → r < 256 → a < 2 ^ 51 → r + a / b < 2 ^ 64
-ended_fits r a b h k = omega (arith, div-le_self a b)
-
-pub frames_small : (r a b d : ℕ) → r < 256 → a < 2 ^ 51 → (r + a / b) / d < 2 ^ 52
-frames_small r a b d h k = omega (arith, div-le_self a b, div-le_self (r + a / b) d)

@@ -71,3 +71,7 @@ module _ (f : ℕ → List ℕ) (row_length : (y : ℕ) → length (f y) ≡ 96)
 
   pub rows_all : {n m : ℕ} (d : List ℕ) → n ≡ m → length d ≡ m * 96 → rows_up_to f n ++ drop (n * 96) d ≡ rows_up_to f m
   rows_all {n} d e h = rw (drop_of_length-le d {i = n * 96} (omega arith), append-nil, e)
+
+-- a page of 256 bytes is whole
+pub length_page : (l : List ℕ) (page : ℕ) → page * 256 + 256 ≤ length l → length (take 256 (drop (page * 256) l)) ≡ 256
+length_page l page h = length-take-le 256 (drop (page * 256) l) (rw length-drop (omega arith))

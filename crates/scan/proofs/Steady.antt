@@ -1,5 +1,5 @@
 -- Bytes that leave the scan as it is.
-use Rattle.std.proofs.Common.{◌≡◌, ℕ, true, false, not, ◌||◌, List, refl, sym, eq-eqb, eqb-true}
+use Rattle.std.proofs.Common.{◌≡◌, ℕ, true, false, List, refl, eq-eqb, eqb-true}
 use mathlib.Core.Bool.{false≢true}
 use borrow.Author.Tests.{not-true}
 use Rattle.std.specs.Prelude.{Option, Some, None, is_some}
@@ -10,9 +10,8 @@ use Rattle.scan.specs.declared.settings.Settings.{Settings}
 use Rattle.scan.specs.declared.state.Scan.{Scan}
 use Rattle.scan.specs.declared.state.Inversion.{Inversion}
 use Rattle.scan.specs.declared.run.Running.{Running}
-use Rattle.scan.specs.Latch.{latched_row, affects, retained}
 use Rattle.scan.specs.Run.{updated}
-use Rattle.scan.specs.Byte.{has_clock, lines_stay, settled, steady}
+use Rattle.scan.specs.Byte.{has_clock, lines_stay, settled}
 use Rattle.scan.proofs.Numbers.{beq_true}
 use Rattle.scan.proofs.Runs.{updated_same}
 
@@ -22,7 +21,7 @@ lines_ended i s h e =
     let p = both _ _ (simp (eq-eqb s.inversion_lines 0 e) at h) in
     (eqb-true _ _ p.0, eqb-true _ _ p.1)
 
--- whether a clock runs, as src/byte.rt asks it
+-- whether a clock runs, as src/run.rt asks it
 pub has_clock_is : (k : Option Clock) → is_some k ≡ has_clock k
 unfolding has_clock
 has_clock_is (Some c) = refl
@@ -37,9 +36,3 @@ settled_same x s now Running.Continues ram icons h =
 settled_same x s now Running.Stands ram icons h =
     let p = both _ _ h in
     updated_same x s now false ram icons (record { clock = not-true _ p.1; lines = λ e. (lines_ended x.inversion s p.0 e).0; count = λ e. (lines_ended x.inversion s p.0 e).1 })
-
-pub steady_same : (x : Scan) (before after : Settings) (now : Time) (page : Option ℕ) (running : Running) (ram icons : List ℕ) → steady x after page running ≡ true → x ≡ updated (retained x before page ram icons) after now running ram icons
-unfolding retained
-steady_same x before after now page running ram icons h =
-    let p = both (settled x after running) (x.latch.latched || not (affects page (latched_row x))) h in
-    rw p.1 (sym (settled_same x after now running ram icons p.0))

@@ -3,6 +3,7 @@
 use Rattle.std.proofs.Common.{◌≡◌, ℕ, zero, suc, ◌+◌, ◌-◌, ◌^◌, ◌<◌, ◌≤◌, min, Bool, true, false, cond, ltb, ◌⊎◌, sym, refl, ap, ◌∙◌, inl, inr, ⊎_elim, zero-add, arith, ltb-false, le-ltb, lt-ltb}
 use mathlib.Core.Bool.{false≢true}
 use Rattle.std.specs.Prelude.{Option, Some, None, Result, Ok, Err}
+use Rattle.checks.proofs.Chains.{row_passed}
 use Rattle.checks.proofs.Tests.{both}
 use Rattle.clock.specs.declared.time.Time.{Time}
 use Rattle.clock.specs.declared.rate.Rate.{Rate}
@@ -19,7 +20,7 @@ use Rattle.scan.specs.declared.state.Ticking.{Ticking}
 use Rattle.scan.specs.declared.stretch.Run.{Run}
 use Rattle.scan.specs.Settings.{frame_of, rows_in, rate_of}
 use Rattle.scan.specs.State.{rows, with_ticking}
-use Rattle.scan.specs.Check.{number, by_clock, valid_settings, valid_scan, valid_running, check_scan}
+use Rattle.scan.specs.Check.{number, by_clock, valid_settings, settings_row, valid_scan, valid_running, check_scan}
 use Rattle.scan.specs.Quantum.{frame_ends, frame_after, ticked_to, quantum}
 use Rattle.scan.specs.Count.{due, count_to, rate_same, row_same, frame_same, limit_with, pieces}
 use Rattle.scan.specs.Closed.{quanta, ticked_by, closed}
@@ -193,9 +194,6 @@ module _ (x : Scan) (s : Settings) (n : ℕ) (pre : (check_scan x ≡ None) × (
     pub taken_check : check_scan from ≡ None
     taken_check = valid_check from from_valid
 
-    pub taken_valid : valid_scan from ≡ true
-    taken_valid = valid_of from taken_check
-
     pub taken_all : left ≡ 0 → InPieces x s n x.ticking (record { scan = from; pieces = uses })
     taken_all z =
         let all : a.done ≡ n = omega (arith, a.sum) in
@@ -209,7 +207,7 @@ module _ (x : Scan) (s : Settings) (n : ℕ) (pre : (check_scan x ≡ None) × (
       pub taken_some : 0 < q
       taken_some = omega (arith, more, count, limit_pos from s from_valid 18446744073709551615 (omega arith))
 
-      taken_few : q ≤ left
+      pub taken_few : q ≤ left
       taken_few = omega (arith, count)
 
       next_from : {y : Scan} → y ≡ closed from s from.ticking false q → y ≡ with_ticking (quanta (q + a.done) x s) x.ticking
@@ -385,3 +383,7 @@ module _ {x : Scan} {s : Settings} {now : Time} {from : Scan} {before : ℕ} (a 
 
           pub left_last : q.count < l → (None, (r.scan, before + r.pieces)) ≡ count_clock x s now
           left_last h = left_none left_next now_passes (ended h)
+
+-- what passed its checks, by their rows of the table
+pub checked : (x : Scan) (s : Settings) {n : ℕ} → check_scan x ≡ None → settings_row s ≡ None → n ≤ 2 ^ 50 → (check_scan x ≡ None) × ((valid_settings s ≡ true) × (n ≤ 2 ^ 50))
+checked x s scan settings most = (scan, (row_passed 3 _ settings, most))

@@ -1,5 +1,5 @@
--- Definitions that contracts of src/byte.rt cite: the tests by which a byte leaves the counted scan as it is. Nothing here is a
--- rule; the rule of a byte is `byte_scan` (Run.antt).
+-- Definitions that contracts of src/run.rt and src/latch.rt cite: the tests by which a byte leaves the counted scan as it is. Nothing
+-- here is a rule; the rule of a byte is `byte_scan` (Run.antt).
 use Rattle.std.specs.Prelude.{ℕ, ◌%◌, Bool, true, false, not, ◌&&◌, ◌||◌, ◌==◌, Option, None, Some}
 use Rattle.std.specs.Bool.{beq}
 use Rattle.clock.specs.declared.edges.Clock.{Clock}
@@ -27,7 +27,3 @@ settled x s Running.Stands = lines_stay x.inversion s && not (has_clock x.tickin
 -- the latch need not be retained before it
 abbrev pub stays_shown : Scan → Option ℕ → Bool
 stays_shown x page = x.latch.latched || not (affects page (latched_row x))
-
--- both
-abbrev pub steady : Scan → Settings → Option ℕ → Running → Bool
-steady x s page running = settled x s running && stays_shown x page

@@ -55,6 +55,10 @@ valid_settings s =
     && nat_le s.oscillator_control 3
     && nat_le s.oscillator_frequency 31
 
+-- its row
+abbrev pub settings_row : Settings → Option ℕ
+settings_row s = row 3 (valid_settings s)
+
 -- the condition of number 4 on the scan
 unfoldable pub frc_count_ok : ℕ → Bool
 frc_count_ok n = n == 3 || n == 4
@@ -95,6 +99,10 @@ check_scan x = first_of (row 4 (valid_scan x)) (row 5 (valid_running x.ticking.c
 -- the condition of number 2 on lent memory
 unfoldable pub memory_ok : (ram icons : List ℕ) → Bool
 memory_ok ram icons = length ram == 4096 && length icons == 256
+
+-- its row
+abbrev pub memory_row : (ram icons : List ℕ) → Option ℕ
+memory_row ram icons = row 2 (memory_ok ram icons)
 
 -- the condition of number 8 on a lent image
 unfoldable pub image_ok : (bytes : ℕ) → Bool

@@ -1,11 +1,14 @@
 // The checks of settings, scan and lent memory, and the table's order: document 01, 'Where a call is
 // turned down', numbers 2, 8, 1, 3, 4 and 5.
-ghost use Rattle.std.specs.Prelude.{◌≡◌, true};
-ghost use Rattle.scan.specs.Check.{number as number_of, by_clock, refused, lines_ok, valid_settings, valid_frame, valid_inversion, valid_scan, check_scan, memory_ok, image_ok, check_moment, check_lent, check_image, check_but_clock};
+ghost use Rattle.std.specs.Prelude.{◌≡◌, IfOk};
+ghost use Rattle.checks.specs.Checks.{row, first_of};
+ghost use Rattle.scan.specs.declared.check.Refusal.TheVariants.{Settings as SettingsRefused};
+ghost use Rattle.scan.specs.Check.{number as number_of, by_clock, refused, lines_ok, valid_settings, settings_row, valid_frame, valid_inversion, valid_scan, check_scan, memory_ok, image_ok, check_moment, check_lent, check_image, check_but_clock};
 
+use crate::memory::{Lent, Memory};
 use crate::settings::{Frame, Settings, rows_in};
 use crate::state::{Inversion, Scan};
-use checks::Numbered;
+use checks::{Check, Numbered};
 use clock::Time;
 
 // Why a call is turned down.
@@ -31,6 +34,17 @@ impl Numbered for Refusal {
             Refusal::Settings => 3,
             Refusal::Scan => 4,
             Refusal::Clock => 5,
+        }
+    }
+}
+
+// Voltages are turned down for their settings alone.
+impl From<voltage::Refusal> for Refusal {
+    ghost from_gives = { λ _ given. given ≡ SettingsRefused };
+
+    fn from(why: voltage::Refusal) -> Refusal {
+        match why {
+            voltage::Refusal::Settings => Refusal::Settings,
         }
     }
 }
@@ -102,13 +116,10 @@ impl Scan {
             & valid_inversion(self.inversion)
     }
 
-    // Number 4, and number 5 of a clock that runs.
-    pub fn check(self) -> Result<(), Refusal>
-        ensures { refused result ≡ check_scan self }
+    // Number 5, of a clock that runs: what is left of the scan's check past number 4.
+    fn check_clock(self) -> Result<(), Refusal>
+        ensures { first_of (row 4 (valid_scan self)) (refused result) ≡ check_scan self }
     {
-        if !self.valid() {
-            return Err(Refusal::Scan);
-        }
         if let Some(clock) = self.ticking.clock {
             clock.check(self.ticking.rate)?;
         }
@@ -116,15 +127,37 @@ impl Scan {
     }
 }
 
-// Number 2: lent memory of other lengths is turned down.
-pub(crate) fn memory_ok(ram: &[u8], icons: &[u8]) -> bool
-    ensures { result ≡ memory_ok ram.now icons.now }
-{
-    (ram.len() == 4096) & (icons.len() == 256)
+// Numbers 4 and 5.
+impl Check for Scan {
+    type Refusal = Refusal;
+
+    ghost refusal = { check_scan };
+
+    #[tactic(auto, unfolding(crate::specs::Check::check_scan))]
+    fn check(self) -> Result<(), Refusal> {
+        if !self.valid() {
+            return Err(Refusal::Scan);
+        }
+        self.check_clock()
+    }
+}
+
+// Number 3.
+impl Check for Settings {
+    type Refusal = Refusal;
+
+    ghost refusal = { settings_row };
+
+    fn check(self) -> Result<(), Refusal> {
+        if !self.valid() {
+            return Err(Refusal::Settings);
+        }
+        Ok(())
+    }
 }
 
 // Number 8.
-fn image_ok(bytes: usize) -> bool
+pub fn image_ok(bytes: usize) -> bool
     ensures { result ≡ image_ok bytes }
 {
     bytes == 6144
@@ -136,9 +169,7 @@ fn image_ok(bytes: usize) -> bool
 pub(crate) fn check_but_clock(scan: Scan, settings_ok: bool, now: Time) -> Result<(), Refusal>
     ensures { refused result ≡ check_but_clock scan settings_ok now }
 {
-    if !now.in_range() {
-        return Err(Refusal::Time);
-    }
+    now.check()?;
     if !settings_ok {
         return Err(Refusal::Settings);
     }
@@ -149,55 +180,44 @@ pub(crate) fn check_but_clock(scan: Scan, settings_ok: bool, now: Time) -> Resul
 }
 
 // The same with number 5.
-#[tactic(auto, unfolding(crate::specs::Check::check_moment, crate::specs::Check::in_order))]
+#[tactic(auto, using(std::proofs::lemmas::Result::err_from_is_err_and), unfolding(crate::specs::Check::check_moment, crate::specs::Check::check_but_clock, crate::specs::Check::check_scan, crate::specs::Check::in_order))]
 pub(crate) fn check_moment(scan: Scan, settings_ok: bool, now: Time) -> Result<(), Refusal>
     ensures { refused result ≡ check_moment scan settings_ok now }
 {
-    if !now.in_range() {
-        return Err(Refusal::Time);
-    }
-    if !settings_ok {
-        return Err(Refusal::Settings);
-    }
-    scan.check()
+    check_but_clock(scan, settings_ok, now)?;
+    scan.check_clock()
 }
 
-// The checks of a call that takes a moment and lent memory.
-#[tactic(auto, unfolding(crate::specs::Check::check_lent, crate::specs::Check::check_moment, crate::specs::Check::in_order))]
-pub(crate) fn check_lent(
+// The checks of a call that takes a moment and memory, and the memory that passed.
+#[tactic(auto, using(std::proofs::lemmas::Result::err_from_is_err_and), unfolding(crate::specs::Check::check_lent, crate::specs::Check::check_moment, crate::specs::Check::in_order))]
+pub(crate) fn check_lent<'a>(
     scan: Scan,
     settings_ok: bool,
     moment: Time,
-    ram: &[u8],
-    icons: &[u8],
-) -> Result<(), Refusal>
-    ensures { refused result ≡ check_lent scan settings_ok moment ram.now icons.now }
+    memory: Memory<'a>,
+) -> Result<Lent<'a>, Refusal>
+    ensures refuses { refused result ≡ check_lent scan settings_ok moment memory.entry.ram.now memory.entry.icons.now }
+    ensures keeps { IfOk result (λ lent. (lent.ram.now ≡ memory.entry.ram.now) × (lent.icons.now ≡ memory.entry.icons.now)) }
 {
-    if memory_ok(ram, icons) {
-        check_moment(scan, settings_ok, moment)
-    } else {
-        Err(Refusal::Memory)
-    }
+    let lent = memory.lent()?;
+    check_moment(scan, settings_ok, moment)?;
+    Ok(lent)
 }
 
-// The checks of a call that takes lent memory and an image of so many bytes.
-#[tactic(auto, unfolding(crate::specs::Check::check_image, crate::specs::Check::in_order))]
-pub(crate) fn check_image(
+// The checks of a call that takes memory and an image of so many bytes, and the memory that passed.
+#[tactic(auto, using(std::proofs::lemmas::Result::err_from_is_err_and), unfolding(crate::specs::Check::check_image, crate::specs::Check::in_order))]
+pub(crate) fn check_image<'a>(
     settings: Settings,
-    ram: &[u8],
-    icons: &[u8],
+    memory: Memory<'a>,
     bytes: usize,
-) -> Result<(), Refusal>
-    ensures { refused result ≡ check_image settings ram.now icons.now bytes }
+) -> Result<Lent<'a>, Refusal>
+    ensures refuses { refused result ≡ check_image settings memory.entry.ram.now memory.entry.icons.now bytes }
+    ensures keeps { IfOk result (λ lent. (lent.ram.now ≡ memory.entry.ram.now) × (lent.icons.now ≡ memory.entry.icons.now)) }
 {
-    if !memory_ok(ram, icons) {
-        return Err(Refusal::Memory);
-    }
+    let passed = memory.lent()?;
     if !image_ok(bytes) {
         return Err(Refusal::Image);
     }
-    if !settings.valid() {
-        return Err(Refusal::Settings);
-    }
-    Ok(())
+    settings.check()?;
+    Ok(passed)
 }

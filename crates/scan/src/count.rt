@@ -1,17 +1,14 @@
 // Counting the scan to a moment. Document 01, 'Scan'. The piece rule and the clock stand in stretch.rt.
-ghost use Rattle.std.specs.Prelude.{◌≡◌, ◌+◌, ◌*◌, ◌^◌, ◌<◌, true, leb, if◌then◌else◌, nat_le, None};
-ghost use Rattle.clock.specs.Time.{raw, in_range};
-ghost use Rattle.clock.specs.Rate.{is_lcd};
-ghost use Rattle.clock.specs.Edges.{moved_by};
-ghost use Rattle.clock.specs.Check.{valid_clock};
-ghost use Rattle.scan.specs.Check.{valid_settings, check_scan};
+ghost use Rattle.std.specs.Prelude.{◌≡◌, ◌+◌, ◌*◌, ◌^◌, ◌<◌, leb, if◌then◌else◌};
+ghost use Rattle.clock.specs.Time.{raw};
 ghost use Rattle.scan.specs.Count.{row_same, frame_same, rate_same, due, count_to, answered_count, count_scan};
 
 use crate::check::{Refusal, check_but_clock};
 use crate::settings::{Settings, frame_of, pwm_of, rate_of};
 use crate::state::Scan;
 use crate::stretch::in_pieces;
-use clock::{Clock, Rate, Time};
+use checks::Checked;
+use clock::Time;
 
 // The scan counted to a moment, and how many pieces that took.
 #[derive(Clone, Copy, Debug, PartialEq, Eq)]
@@ -65,29 +62,22 @@ fn later(seconds: u64, fraction: u64, span: u64) -> Time
     }
 }
 
-// Whether the next edge is not later than now: one comparison, where a count divides.
-fn edge_due(clock: Clock, rate: Rate, now: Time) -> bool
-    requires rate_value { is_lcd rate ≡ true }
-    requires rate_value_2 { valid_clock clock rate ≡ true }
-    ensures { result ≡ nat_le (raw (moved_by clock rate 1).at) (raw now) }
+// Whether the next edge is not later than now: one comparison, where a count divides. Not inline: a scan that
+// is read beside its copy is copied in parts, and what then reads the copy waits.
+#[inline(never)]
+fn is_due(scan: &Checked<Scan>, now: Time) -> bool
+    ensures { result ≡ due scan.now.value now }
 {
+    let Some(clock) = &scan.value.ticking.clock else {
+        return false;
+    };
     let span = next_span(
         clock.whole.low,
         clock.remainder,
         clock.fraction,
-        rate.numerator,
+        scan.value.ticking.rate.numerator,
     );
     later(clock.at.seconds, clock.at.fraction, span) <= now
-}
-
-fn is_due(scan: Scan, now: Time) -> bool
-    requires { check_scan scan ≡ None }
-    ensures { result ≡ due scan now }
-{
-    let Some(clock) = scan.ticking.clock else {
-        return false;
-    };
-    edge_due(clock, scan.ticking.rate, now)
 }
 
 impl Scan {
@@ -97,19 +87,23 @@ impl Scan {
         ensures { answered_count self result ≡ count_scan self settings now }
     {
         check_but_clock(self, settings.valid(), now)?;
-        in_pieces(self, settings, now)
+        in_pieces(self, Checked { value: settings }, Checked { value: now })
     }
 }
 
 // The scan counted to now, where every check has passed. Most drives find no edge due.
-pub(crate) fn latest(scan: Scan, settings: Settings, now: Time) -> Scan
-    requires value { in_range now ≡ true }
-    requires settings_value { valid_settings settings ≡ true }
-    requires scan_value { check_scan scan ≡ None }
-    ensures { result ≡ count_to scan settings now }
+pub(crate) fn latest(
+    scan: Checked<Scan>,
+    settings: Checked<Settings>,
+    now: Checked<Time>,
+) -> Checked<Scan>
+    ensures { result.value ≡ count_to scan.value settings.value now.value }
 {
-    if !is_due(scan, now) {
+    if !is_due(&scan, now.value) {
         return scan;
     }
-    scan.count_to(settings, now).unwrap().scan
+    let counted = scan.value.count_to(settings.value, now.value).unwrap();
+    Checked {
+        value: counted.scan,
+    }
 }

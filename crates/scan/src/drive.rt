@@ -1,17 +1,16 @@
 // The drive: the levels that the electrodes of the glass get at a moment, and the voltage of each
 // electrode. Document 01, 'Drive, electrodes, image'.
-ghost use Rattle.std.specs.Prelude.{◌≡◌, ◌<◌, true, length, None};
-ghost use Rattle.clock.specs.Time.{in_range};
-ghost use Rattle.voltage.specs.Check as analogs;
+ghost use Rattle.std.specs.Prelude.{◌≡◌, ◌<◌};
 ghost use Rattle.voltage.specs.Voltage.{voltages};
-ghost use Rattle.scan.specs.Check.{valid_settings, check_scan};
 ghost use Rattle.scan.specs.Drive.{runs as runs_by, driven as driven_by, grounded as grounded_by, common_of, undriven as undriven_of, drive_of, drive_at, quanta_of, frame_at, answered_drive, drive_scan, common_level, segment_level, active_in, common_microvolts, segment_microvolts};
 
 use crate::check::{Refusal, check_lent};
 use crate::count::latest;
 use crate::latch::shown;
+use crate::memory::{Lent, Memory};
 use crate::settings::Settings;
 use crate::state::Scan;
+use checks::Checked;
 use clock::Time;
 use voltage::{LcdVoltages, Supply};
 
@@ -34,7 +33,8 @@ pub struct LcdDrive {
     pub segments: [u64; 2],
 }
 
-// The drive and the frame of the scan shown, in quanta: duty x PWM, 0 where undriven.
+// The drive and the frame of the scan shown, in quanta: duty x PWM. Undriven it is 0 and no None: the C
+// interface and the definition show a number, and `common` is None there.
 #[derive(Clone, Copy, Debug, PartialEq, Eq)]
 pub struct Driven {
     pub drive: LcdDrive,
@@ -91,21 +91,12 @@ fn undriven(conditions: Conditions, voltages: LcdVoltages) -> LcdDrive
 }
 
 // The drive of a scan that is counted to the moment.
-fn drive_of(
-    scan: Scan,
-    settings: Settings,
-    voltages: LcdVoltages,
-    ram: &[u8],
-    icons: &[u8],
-) -> LcdDrive
-    requires scan_value { check_scan scan ≡ None }
-    requires ram_len { length ram.now ≡ 4096 }
-    requires icons_len { length icons.now ≡ 256 }
-    ensures { result ≡ drive_of scan settings voltages ram.now icons.now }
+fn drive_of(scan: Scan, settings: Settings, voltages: LcdVoltages, lent: Lent<'_>) -> LcdDrive
+    ensures { result ≡ drive_of scan settings voltages lent.entry.ram.now lent.entry.icons.now }
 {
     LcdDrive {
         common: Some(common_of(scan)),
-        segments: shown(scan, settings, ram, icons),
+        segments: shown(scan, settings, lent),
         inverted: scan.inversion.inverted,
         voltages,
         grounded: false,
@@ -120,20 +111,14 @@ fn quanta_of(scan: Scan) -> u16
 }
 
 fn driven_at(
-    scan: Scan,
-    settings: Settings,
+    scan: Checked<Scan>,
+    settings: Checked<Settings>,
     voltages: LcdVoltages,
     conditions: Conditions,
-    moment: Time,
-    ram: &[u8],
-    icons: &[u8],
+    moment: Checked<Time>,
+    lent: Lent<'_>,
 ) -> Driven
-    requires moment_value { in_range moment ≡ true }
-    requires settings_value { valid_settings settings ≡ true }
-    requires scan_value { check_scan scan ≡ None }
-    requires ram_len { length ram.now ≡ 4096 }
-    requires icons_len { length icons.now ≡ 256 }
-    ensures { result ≡ record { drive = drive_at scan settings voltages conditions moment ram.now icons.now; frame = frame_at scan settings conditions moment } }
+    ensures { result ≡ record { drive = drive_at scan.value settings.value voltages conditions moment.value lent.entry.ram.now lent.entry.icons.now; frame = frame_at scan.value settings.value conditions moment.value } }
 {
     if !conditions.driven() {
         return Driven {
@@ -141,38 +126,42 @@ fn driven_at(
             frame: 0,
         };
     }
-    let latest = latest(scan, settings, moment);
+    let latest = latest(scan, settings, moment).value;
     Driven {
-        drive: drive_of(latest, settings, voltages, ram, icons),
+        drive: drive_of(latest, settings.value, voltages, lent),
         frame: quanta_of(latest),
     }
 }
 
 // The levels of settings that passed, which are not refused.
-fn levels_of(analog: voltage::Settings, supply: Supply) -> LcdVoltages
-    requires { analogs.valid_settings analog ≡ true }
-    ensures { result ≡ voltages analog supply }
+fn levels_of(analog: Checked<voltage::Settings>, supply: Supply) -> LcdVoltages
+    ensures { result ≡ voltages analog.value supply }
 {
-    voltage::voltages(analog, supply).unwrap()
+    voltage::voltages(analog.value, supply).unwrap()
 }
 
 // The drive at a moment. The scan itself is left where it was.
-#[tactic(auto, using(crate::proofs::Checks::lent_facts))]
 pub fn drive(
     scan: Scan,
     settings: Settings,
     analog: voltage::Settings,
     conditions: Conditions,
     moment: Time,
-    ram: &[u8],
-    icons: &[u8],
+    memory: Memory<'_>,
 ) -> Result<Driven, Refusal>
-    ensures { answered_drive result ≡ drive_scan scan settings analog conditions moment ram.now icons.now }
+    ensures { answered_drive result ≡ drive_scan scan settings analog conditions moment memory.entry.ram.now memory.entry.icons.now }
 {
     let settings_ok = settings.valid() & analog.valid();
-    check_lent(scan, settings_ok, moment, ram, icons)?;
-    let levels = levels_of(analog, conditions.supply);
-    Ok(driven_at(scan, settings, levels, conditions, moment, ram, icons))
+    let lent = check_lent(scan, settings_ok, moment, memory)?;
+    let levels = levels_of(Checked { value: analog }, conditions.supply);
+    Ok(driven_at(
+        Checked { value: scan },
+        Checked { value: settings },
+        levels,
+        conditions,
+        Checked { value: moment },
+        lent,
+    ))
 }
 
 // The level of a common in microvolts; None where it has none.

@@ -1,19 +1,19 @@
 // The fast path of a byte: its checks pass, the scan goes on as it did, and every setting that the ends of
 // rows and frames take is in force already. Then only clock, counters and latch move, and one check of
 // the clock does for the count too. Any other byte goes by byte.rt.
-ghost use Rattle.std.specs.Prelude.{◌≡◌, ◌+◌, ◌%◌, ◌^◌, ◌<◌, ◌≤◌, true, None};
+ghost use Rattle.std.specs.Prelude.{◌≡◌, ◌+◌, ◌%◌, ◌^◌, ◌<◌, ◌&&◌, true};
 ghost use Rattle.clock.specs.Time.{in_range};
-ghost use Rattle.scan.specs.Check.{valid_settings, valid_scan, check_scan};
-ghost use Rattle.scan.specs.Fast.{checks_pass, counted_fast, fast_byte, in_force, inversion_on, with_counters, rows_on, moved_on};
+ghost use Rattle.scan.specs.Check.{valid_settings, valid_scan};
+ghost use Rattle.scan.specs.Fast.{counted_fast, fast_byte, in_force, inversion_on, with_counters, rows_on, moved_on};
 
-use crate::byte::{settled, stays_shown};
-use crate::check::memory_ok;
-use crate::closed::inversion_taken;
+use crate::closed::{Ends, Quanta, inversion_taken};
 use crate::count::{frame_same, rate_same, row_same};
-use crate::latch::retained;
-use crate::run::Running;
+use crate::latch::{latch_retained, stays_shown};
+use crate::memory::Memory;
+use crate::run::{Running, settled};
 use crate::settings::{Settings, rows_in};
 use crate::state::{Inversion, Scan, with_ticking};
+use checks::Checked;
 use clock::{Clock, Time};
 
 // No end of a row or frame takes another setting, and the rate is that of the settings.
@@ -23,12 +23,11 @@ fn in_force(scan: Scan, settings: Settings) -> bool
     rate_same(scan, settings) & row_same(scan, settings) & frame_same(scan, settings)
 }
 
-// The inversion e ended rows and f ended frames later, its lines in force.
-fn inversion_on(inversion: Inversion, e: u64, f: u64) -> Inversion
-    requires { e < 2 ^ 51 }
-    ensures { result ≡ inversion_on inversion e f }
+// The inversion after these ended rows and frames, its lines in force.
+fn inversion_on(inversion: Inversion, ends: Ends) -> Inversion
+    ensures { result ≡ inversion_on inversion ends.rows ends.frames }
 {
-    inversion_taken(inversion, inversion.lines, e, f)
+    inversion_taken(inversion, inversion.lines, ends)
 }
 
 // The scan with this clock and these counters; what it has taken stays.
@@ -44,69 +43,83 @@ fn with_counters(scan: Scan, clock: Clock, step: u8, row: u8, frc: u8, inversion
     next
 }
 
-// The phase f frames later, of so many.
-fn phase_on(frc: u8, f: u64, phases: u8) -> u8
-    requires f_bound { f < 2 ^ 52 }
-    requires phases_nonzero { 0 < phases }
-    ensures { result ≡ (frc + f) % phases }
+// The phase after these ended frames.
+fn phase_on(scan: Checked<Scan>, ends: Ends) -> u8
+    ensures { result ≡ (scan.value.frc + ends.frames) % scan.value.frame.frc_count }
 {
-    ((u64::from(frc) + f) % u64::from(phases)) as u8
+    let phases = u64::from(scan.value.frame.frc_count);
+    ((u64::from(scan.value.frc) + ends.frames) % phases) as u8
 }
 
 // Past e row ends, with every setting in force.
-fn rows_on(scan: Scan, clock: Clock, step: u8, e: u64) -> Scan
-    requires scan_value { check_scan scan ≡ None }
-    requires e_bound { e < 2 ^ 51 }
-    ensures { result ≡ rows_on scan clock step e }
+fn rows_on(scan: Checked<Scan>, clock: Clock, step: u8, e: u64) -> Scan
+    requires { e < 2 ^ 51 }
+    ensures { result ≡ rows_on scan.value clock step e }
 {
-    let rows = u64::from(rows_in(scan.frame));
-    let passed = u64::from(scan.row) + e;
+    let Scan {
+        frame,
+        row,
+        frc,
+        inversion,
+        ..
+    } = scan.value;
+    let rows = u64::from(rows_in(frame));
+    let passed = u64::from(row) + e;
     if passed < rows {
-        let next = inversion_on(scan.inversion, e, 0);
-        return with_counters(scan, clock, step, passed as u8, scan.frc, next);
+        let next = inversion_on(inversion, Ends { rows: e, frames: 0 });
+        return with_counters(scan.value, clock, step, passed as u8, frc, next);
     }
-    let frames = passed / rows;
+    let ends = Ends {
+        rows: e,
+        frames: passed / rows,
+    };
     let row = (passed % rows) as u8;
-    let next = inversion_on(scan.inversion, e, frames);
-    let frc = phase_on(scan.frc, frames, scan.frame.frc_count);
-    with_counters(scan, clock, step, row, frc, next)
+    let next = inversion_on(inversion, ends);
+    with_counters(scan.value, clock, step, row, phase_on(scan, ends), next)
 }
 
-// n quanta later, with every setting in force.
-fn moved_on(scan: Scan, clock: Clock, n: u64) -> Scan
-    requires scan_value { check_scan scan ≡ None }
-    requires n_bound { n ≤ 2 ^ 50 }
-    ensures { result ≡ moved_on scan clock n }
+// So many quanta later, with every setting in force.
+fn moved_on(scan: Checked<Scan>, clock: Clock, quanta: Quanta) -> Scan
+    ensures { result ≡ moved_on scan.value clock quanta.count }
 {
-    let total = u64::from(scan.step) + n;
-    let pwm = u64::from(scan.pwm);
+    let Scan {
+        pwm,
+        row,
+        step,
+        frc,
+        inversion,
+        ..
+    } = scan.value;
+    let total = u64::from(step) + quanta.count;
+    let pwm = u64::from(pwm);
     if total < pwm {
-        return with_counters(scan, clock, total as u8, scan.row, scan.frc, scan.inversion);
+        return with_counters(scan.value, clock, total as u8, row, frc, inversion);
     }
     rows_on(scan, clock, (total % pwm) as u8, total / pwm)
 }
 
 // The scan counted to now, where its clock passes and an edge that is due finds every setting in force.
 // None elsewhere.
-fn counted_fast(scan: Scan, settings: Settings, now: Time) -> Option<Scan>
-    requires value { in_range now ≡ true }
-    requires settings_value { valid_settings settings ≡ true }
-    requires scan_value { valid_scan scan ≡ true }
-    ensures { result ≡ counted_fast scan settings now }
+fn counted_fast(scan: Scan, settings: Checked<Settings>, now: Checked<Time>) -> Option<Scan>
+    requires { valid_scan scan ≡ true }
+    ensures { result ≡ counted_fast scan settings.value now.value }
 {
     let Some(clock) = scan.ticking.clock else {
         return Some(scan);
     };
-    let Ok(passed) = clock.passed_to(scan.ticking.rate, now, u64::MAX) else {
+    let Ok(passed) = clock.passed_to(scan.ticking.rate, now.value, u64::MAX) else {
         return None;
     };
     if passed.count == 0 {
         return Some(scan);
     }
-    if !in_force(scan, settings) {
+    if !in_force(scan, settings.value) {
         return None;
     }
-    Some(moved_on(scan, passed.clock, passed.count))
+    let quanta = Quanta {
+        count: passed.count,
+    };
+    Some(moved_on(Checked { value: scan }, passed.clock, quanta))
 }
 
 // The same settings, field by field: what a call takes stands in memory, and where few bytes come to the
@@ -132,11 +145,11 @@ fn copied(settings: Settings) -> Settings
     }
 }
 
-// Every check but that of the clock passes.
-fn checks_pass(scan: Scan, settings: Settings, moment: Time, ram: &[u8], icons: &[u8]) -> bool
-    ensures { result ≡ checks_pass scan settings moment ram.now icons.now }
+// Every check but those of memory and clock passes.
+fn checks_pass(scan: Scan, settings: Settings, moment: Time) -> bool
+    ensures { result ≡ in_range moment && valid_settings settings && valid_scan scan }
 {
-    memory_ok(ram, icons) & moment.in_range() & settings.valid() & scan.valid()
+    moment.in_range() & settings.valid() & scan.valid()
 }
 
 impl Scan {
@@ -148,16 +161,19 @@ impl Scan {
         moment: Time,
         page: Option<u8>,
         running: Running,
-        ram: &[u8],
-        icons: &[u8],
+        memory: Memory<'_>,
     ) -> Option<Scan>
-        ensures { result ≡ fast_byte self settings moment page running ram.now icons.now }
+        ensures { result ≡ fast_byte self settings moment page running memory.entry.ram.now memory.entry.icons.now }
     {
-        if !checks_pass(self, settings, moment, ram, icons) {
+        let Ok(lent) = memory.lent() else {
+            return None;
+        };
+        if !checks_pass(self, settings, moment) {
             return None;
         }
+        let passed = Checked { value: settings };
         // Not `?`: that copies the scan once more, and a byte takes 4 ns more.
-        let Some(counted) = counted_fast(self, settings, moment) else {
+        let Some(counted) = counted_fast(self, passed, Checked { value: moment }) else {
             return None;
         };
         if !settled(counted, settings, running) {
@@ -166,6 +182,6 @@ impl Scan {
         if stays_shown(counted, page) {
             return Some(counted);
         }
-        Some(retained(counted, copied(settings), page, ram, icons))
+        Some(latch_retained(counted, copied(settings), lent))
     }
 }

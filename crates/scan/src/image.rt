@@ -6,6 +6,7 @@ ghost use Rattle.scan.specs.Check.{refused, check_image};
 ghost use Rattle.scan.specs.Image.{lit_by, cycle_of, widths, level_of, glass_common, line_of, ram_row_of, rendered};
 
 use crate::check::{Refusal, check_image};
+use crate::memory::Memory;
 use crate::paint::paint;
 use crate::settings::{Settings, frc_count_of, pwm_of};
 use crate::shade::pulse_width;
@@ -23,7 +24,6 @@ fn lit_by(settings: Settings, driven: bool) -> bool
 
 // A shade's widths, summed over the phases of the gray cycle.
 fn width_sum(settings: Settings, shade: u8) -> u16
-    requires { shade < 4 }
     ensures { result ≡ widths settings shade (frc_count_of settings.gray_mode) }
 {
     let pwm = pwm_of(settings.gray_mode);
@@ -43,7 +43,6 @@ fn cycle_of(settings: Settings) -> u16
 
 // The mean drive of a shade, rounded to the nearest.
 pub(crate) fn level_of(settings: Settings, shade: u8) -> u8
-    requires { shade < 4 }
     ensures { result ≡ level_of settings shade }
 {
     let cycle = cycle_of(settings);
@@ -52,46 +51,44 @@ pub(crate) fn level_of(settings: Settings, shade: u8) -> u8
 }
 
 // The common of a glass row.
-fn glass_common(reversed: bool, y: u8) -> u8
-    requires { y < 64 }
+fn glass_common(reversed: bool, y: u8) -> u16
     ensures { result ≡ glass_common reversed y }
 {
-    if reversed { 95 - y } else { 32 + y }
+    let y = u16::from(y);
+    if reversed {
+        95u16.saturating_sub(y)
+    } else {
+        32 + y
+    }
 }
 
 // The line of the scan that drives a glass row.
 pub(crate) fn line_of(settings: Settings, y: u8) -> u8
-    requires y_bound { y < 64 }
-    requires initial_com_bound { settings.initial_com < 128 }
-    ensures value { result ≡ line_of settings y }
-    ensures upper_bound { result < 128 }
+    ensures { result ≡ line_of settings y }
 {
     let common = glass_common(settings.common_reverse, y);
-    (common + (128 - settings.initial_com)) % 128
+    ((common + 128).saturating_sub(u16::from(settings.initial_com)) % 128) as u8
 }
 
 // The row of RAM that a line shows.
 pub(crate) fn ram_row_of(settings: Settings, line: u8) -> u8
-    requires line_bound { line < 128 }
-    requires start_line_bound { settings.start_line < 128 }
     ensures value { result ≡ ram_row_of settings line }
     ensures upper_bound { result < 128 }
 {
-    (line + settings.start_line) % 128
+    ((u16::from(line) + u16::from(settings.start_line)) % 128) as u8
 }
 
 // The whole image into 6,144 lent bytes.
 pub fn render(
     settings: Settings,
     driven: bool,
-    ram: &[u8],
-    icons: &[u8],
+    memory: Memory<'_>,
     image: &mut [u8],
 ) -> Result<(), Refusal>
-    ensures result_value { refused result ≡ check_image settings ram.now icons.now (length image.old) }
-    ensures image_after { image.new ≡ rendered settings driven ram.now icons.now image.old }
+    ensures result_value { refused result ≡ check_image settings memory.entry.ram.now memory.entry.icons.now (length image.old) }
+    ensures image_after { image.new ≡ rendered settings driven memory.entry.ram.now memory.entry.icons.now image.old }
 {
-    check_image(settings, ram, icons, image.len())?;
-    paint(settings, lit_by(settings, driven), ram, image);
+    let lent = check_image(settings, memory, image.len())?;
+    paint(settings, lit_by(settings, driven), lent.ram, image);
     Ok(())
 }

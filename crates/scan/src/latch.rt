@@ -1,8 +1,10 @@
 // The output latch: which of the 128 segments are active in the present quantum, and when the latch
 // is retained because memory or settings are about to change. Document 01, 'Scan'.
-ghost use Rattle.std.specs.Prelude.{◌≡◌, ◌<◌, length};
-ghost use Rattle.scan.specs.Latch.{latched_row, present_latch, shown as shown_of, affects, retained as retained_of};
+ghost use Rattle.std.specs.Prelude.{◌≡◌};
+ghost use Rattle.scan.specs.Latch.{latched_row, present_latch, shown as shown_of, affects, latch_retained, retained as retained_of};
+ghost use Rattle.scan.specs.Byte.{stays_shown};
 
+use crate::memory::Lent;
 use crate::segments::{active_shades, row_words};
 use crate::settings::Settings;
 use crate::state::{Latch, Scan};
@@ -20,37 +22,25 @@ pub(crate) fn latched_row(scan: Scan) -> u8
 }
 
 // The latch of present memory and settings.
-pub(crate) fn present_latch(scan: Scan, settings: Settings, ram: &[u8], icons: &[u8]) -> [u64; 2]
-    requires frc_bound { scan.frc < 4 }
-    requires ram_len { length ram.now ≡ 4096 }
-    requires icons_len { length icons.now ≡ 256 }
-    ensures { result ≡ present_latch scan settings ram.now icons.now }
+fn present_latch(scan: Scan, settings: Settings, lent: Lent<'_>) -> [u64; 2]
+    ensures { result ≡ present_latch scan settings lent.entry.ram.now lent.entry.icons.now }
 {
     let active = active_shades(scan, settings);
-    row_words(
-        latched_row(scan),
-        active,
-        settings.segment_reverse,
-        ram,
-        icons,
-    )
+    row_words(latched_row(scan), active, settings.segment_reverse, lent)
 }
 
 // The segments shown: the latch that is retained, or else the present one.
-pub(crate) fn shown(scan: Scan, settings: Settings, ram: &[u8], icons: &[u8]) -> [u64; 2]
-    requires frc_bound { scan.frc < 4 }
-    requires ram_len { length ram.now ≡ 4096 }
-    requires icons_len { length icons.now ≡ 256 }
-    ensures { result ≡ shown_of scan settings ram.now icons.now }
+pub(crate) fn shown(scan: Scan, settings: Settings, lent: Lent<'_>) -> [u64; 2]
+    ensures { result ≡ shown_of scan settings lent.entry.ram.now lent.entry.icons.now }
 {
     if scan.latch.latched {
         return scan.latch.segments;
     }
-    present_latch(scan, settings, ram, icons)
+    present_latch(scan, settings, lent)
 }
 
 // Whether a byte could alter what a row shows: `page` is where a data byte goes, none for a command.
-pub(crate) fn affected(page: Option<u8>, row: u8) -> bool
+fn affected(page: Option<u8>, row: u8) -> bool
     ensures { result ≡ affects page row }
 {
     match page {
@@ -60,23 +50,18 @@ pub(crate) fn affected(page: Option<u8>, row: u8) -> bool
     }
 }
 
-// The scan with its latch retained, where a byte could alter the row being shown.
-pub(crate) fn retained(
-    scan: Scan,
-    settings: Settings,
-    page: Option<u8>,
-    ram: &[u8],
-    icons: &[u8],
-) -> Scan
-    requires frc_bound { scan.frc < 4 }
-    requires ram_len { length ram.now ≡ 4096 }
-    requires icons_len { length icons.now ≡ 256 }
-    ensures { result ≡ retained_of scan settings page ram.now icons.now }
+// The latch need not be retained before a byte.
+pub(crate) fn stays_shown(scan: Scan, page: Option<u8>) -> bool
+    ensures { result ≡ stays_shown scan page }
 {
-    if scan.latch.latched | !affected(page, latched_row(scan)) {
-        return scan;
-    }
-    let segments = present_latch(scan, settings, ram, icons);
+    scan.latch.latched | !affected(page, latched_row(scan))
+}
+
+// The scan with the present latch retained.
+pub(crate) fn latch_retained(scan: Scan, settings: Settings, lent: Lent<'_>) -> Scan
+    ensures { result ≡ latch_retained scan settings lent.entry.ram.now lent.entry.icons.now }
+{
+    let segments = present_latch(scan, settings, lent);
     // Not `Scan { latch, ..scan }`: that copies field by field, and a byte takes some 20 ns more.
     let mut next = scan;
     next.latch = Latch {
@@ -84,4 +69,14 @@ pub(crate) fn retained(
         latched: true,
     };
     next
+}
+
+// The same, where a byte could alter the row being shown.
+pub(crate) fn retained(scan: Scan, settings: Settings, page: Option<u8>, lent: Lent<'_>) -> Scan
+    ensures { result ≡ retained_of scan settings page lent.entry.ram.now lent.entry.icons.now }
+{
+    if stays_shown(scan, page) {
+        return scan;
+    }
+    latch_retained(scan, settings, lent)
 }

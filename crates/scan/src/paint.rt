@@ -1,7 +1,6 @@
 // The rows of the gray image painted: a row by itself, from its bits and from the levels of what two of
 // them show, and the image row after row.
-ghost use Rattle.std.specs.Prelude.{◌≡◌, ◌<◌, true, length};
-ghost use Rattle.scan.specs.Check.{valid_settings};
+ghost use Rattle.std.specs.Prelude.{◌≡◌, length};
 ghost use Rattle.scan.specs.Image.{up_to, image_row, rows_up_to};
 ghost use Rattle.scan.specs.Paint.{levels_of, row_level};
 
@@ -36,22 +35,17 @@ pub(crate) fn paint_row(
     settings: Settings,
     lit: bool,
     levels: [u8; 4],
-    ram: &[u8],
+    ram: &[u8; 4096],
     y: u8,
     row: &mut [u8],
 )
-    requires settings_value { valid_settings settings ≡ true }
     requires levels_value { levels ≡ levels_of settings }
-    requires ram_len { length ram.now ≡ 4096 }
-    requires y_bound { y < 64 }
     requires row_len { length row.old ≡ 96 }
     ensures { row.new ≡ image_row settings lit ram.now y }
 {
     let line = line_of(settings, y);
     if lit & (line < settings.duty) {
-        let shown = ram_row_of(settings, line);
-        let page = usize::from(shown / 8) * 256;
-        let bits = RowBits::new(&ram[page..page + 256], shown % 8);
+        let bits = RowBits::of_ram(ram, ram_row_of(settings, line));
         paint_bits(&bits, settings.segment_reverse, levels, row);
     } else {
         row.fill(0);
@@ -59,10 +53,8 @@ pub(crate) fn paint_row(
 }
 
 // All glass rows.
-pub(crate) fn paint(settings: Settings, lit: bool, ram: &[u8], image: &mut [u8])
-    requires settings_value { valid_settings settings ≡ true }
-    requires ram_len { length ram.now ≡ 4096 }
-    requires image_len { length image.old ≡ 6144 }
+pub(crate) fn paint(settings: Settings, lit: bool, ram: &[u8; 4096], image: &mut [u8])
+    requires { length image.old ≡ 6144 }
     ensures { image.new ≡ rows_up_to (image_row settings lit ram.now) 64 }
 {
     let levels = levels_of(settings);

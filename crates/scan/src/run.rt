@@ -1,15 +1,17 @@
 // The effect of a byte, a warm rise or a fall on the scan. Document 01, 'Scan'. The moment of a call is
 // `moment` where memory is lent, since a clause reads lent memory by `now`.
-ghost use Rattle.std.specs.Prelude.{◌≡◌, true, length, None};
-ghost use Rattle.clock.specs.Time.{in_range};
-ghost use Rattle.scan.specs.Check.{answered, valid_settings, check_scan};
+ghost use Rattle.std.specs.Prelude.{◌≡◌};
+ghost use Rattle.scan.specs.Check.{answered};
+ghost use Rattle.scan.specs.Byte.{lines_stay, settled as settled_of};
 ghost use Rattle.scan.specs.Run.{running_after, cleared as cleared_of, taken as taken_of, begun as begun_of, stopped as stopped_of, clocked as clocked_of, resumed as resumed_of, updated as updated_of, before_byte, after_byte, fall_scan, rise_scan};
 
 use crate::check::{Refusal, check_lent, check_moment};
 use crate::count::latest;
-use crate::latch::{present_latch, retained};
+use crate::latch::{latch_retained, retained};
+use crate::memory::{Lent, Memory};
 use crate::settings::{Settings, frame_of, pwm_of, rate_of};
 use crate::state::{Inversion, Latch, Scan, Ticking, start_clock, with_ticking};
+use checks::Checked;
 use clock::Time;
 
 // The effect of a byte on the scan: it makes it run, leaves it running, or the scan does not run.
@@ -37,16 +39,16 @@ impl Running {
 
 // The scan with its line inversion ended, where the settings have none: an old interval must not
 // flip the polarity before the next frame end.
-fn cleared(scan: Scan, settings: Settings) -> Scan
-    ensures { result ≡ cleared_of scan settings }
+fn cleared(scan: Checked<Scan>, settings: Settings) -> Checked<Scan>
+    ensures { result.value ≡ cleared_of scan.value settings }
 {
     if settings.inversion_lines != 0 {
         return scan;
     }
-    let mut next = scan;
+    let mut next = scan.value;
     next.inversion.lines = 0;
     next.inversion.count = 0;
-    next
+    Checked { value: next }
 }
 
 // A scan at its beginning, with every setting taken and nothing latched yet.
@@ -77,18 +79,12 @@ fn taken(settings: Settings) -> Scan
 }
 
 // The scan that a byte makes run.
-fn begun(settings: Settings, ram: &[u8], icons: &[u8]) -> Scan
-    requires ram_len { length ram.now ≡ 4096 }
-    requires icons_len { length icons.now ≡ 256 }
-    ensures { result ≡ begun_of settings ram.now icons.now }
+fn begun(settings: Checked<Settings>, lent: Lent<'_>) -> Checked<Scan>
+    ensures { result.value ≡ begun_of settings.value lent.entry.ram.now lent.entry.icons.now }
 {
-    let scan = taken(settings);
-    Scan {
-        latch: Latch {
-            segments: present_latch(scan, settings, ram, icons),
-            latched: true,
-        },
-        ..scan
+    let taken = taken(settings.value);
+    Checked {
+        value: latch_retained(taken, settings.value, lent),
     }
 }
 
@@ -100,53 +96,72 @@ fn stopped(scan: Scan) -> Scan
 }
 
 // A scan that runs: a missing clock starts at the moment, and oscillator control bit 0 drops it.
-fn clocked(scan: Scan, settings: Settings, moment: Time) -> Scan
-    requires moment_value { in_range moment ≡ true }
-    requires settings_value { valid_settings settings ≡ true }
-    requires scan_value { check_scan scan ≡ None }
-    ensures { result ≡ clocked_of scan settings moment }
+fn clocked(scan: Checked<Scan>, settings: Checked<Settings>, moment: Checked<Time>) -> Scan
+    ensures { result ≡ clocked_of scan.value settings.value moment.value }
 {
-    if settings.oscillator_control % 2 != 0 {
-        return stopped(scan);
+    if settings.value.oscillator_control % 2 != 0 {
+        return stopped(scan.value);
     }
-    if scan.ticking.clock.is_some() {
-        return scan;
+    if scan.value.ticking.clock.is_some() {
+        return scan.value;
     }
-    let rate = rate_of(settings, scan.frame);
-    with_ticking(scan, start_clock(moment, rate), rate)
+    let rate = Checked {
+        value: rate_of(settings.value, scan.value.frame),
+    };
+    with_ticking(scan.value, start_clock(moment, rate), rate.value)
 }
 
 // A scan that ran before: it goes on, or does not run any more.
-fn resumed(scan: Scan, settings: Settings, moment: Time, runs: bool) -> Scan
-    requires moment_value { in_range moment ≡ true }
-    requires settings_value { valid_settings settings ≡ true }
-    requires scan_value { check_scan scan ≡ None }
-    ensures { result ≡ resumed_of scan settings moment runs }
+fn resumed(
+    scan: Checked<Scan>,
+    settings: Checked<Settings>,
+    moment: Checked<Time>,
+    runs: bool,
+) -> Scan
+    ensures { result ≡ resumed_of scan.value settings.value moment.value runs }
 {
+    let cleared = cleared(scan, settings.value);
     if runs {
-        return clocked(cleared(scan, settings), settings, moment);
+        return clocked(cleared, settings, moment);
     }
-    stopped(cleared(scan, settings))
+    stopped(cleared.value)
 }
 
-// The scan after a byte.
-pub(crate) fn updated(
-    scan: Scan,
-    settings: Settings,
-    moment: Time,
-    running: Running,
-    ram: &[u8],
-    icons: &[u8],
-) -> Scan
-    requires moment_value { in_range moment ≡ true }
-    requires settings_value { valid_settings settings ≡ true }
-    requires scan_value { check_scan scan ≡ None }
-    requires ram_len { length ram.now ≡ 4096 }
-    requires icons_len { length icons.now ≡ 256 }
-    ensures { result ≡ updated_of scan settings moment running ram.now icons.now }
+// No line inversion is left to be ended.
+fn lines_stay(inversion: Inversion, settings: Settings) -> bool
+    ensures { result ≡ lines_stay inversion settings }
 {
+    (settings.inversion_lines != 0) | ((inversion.lines == 0) & (inversion.count == 0))
+}
+
+// Nothing is left to be begun, ended, started or dropped after a byte.
+pub(crate) fn settled(scan: Scan, settings: Settings, running: Running) -> bool
+    ensures { result ≡ settled_of scan settings running }
+{
+    let clocked = scan.ticking.clock.is_some();
+    let stay = lines_stay(scan.inversion, settings);
     match running {
-        Running::Begins => clocked(begun(settings, ram, icons), settings, moment),
+        Running::Begins => false,
+        Running::Continues => stay & (clocked == (settings.oscillator_control % 2 == 0)),
+        Running::Stands => stay & !clocked,
+    }
+}
+
+// The scan after a byte. Most bytes leave a counted scan as it is, which costs less to find out than to do.
+pub(crate) fn updated(
+    scan: Checked<Scan>,
+    settings: Checked<Settings>,
+    moment: Checked<Time>,
+    running: Running,
+    lent: Lent<'_>,
+) -> Scan
+    ensures { result ≡ updated_of scan.value settings.value moment.value running lent.entry.ram.now lent.entry.icons.now }
+{
+    if settled(scan.value, settings.value, running) {
+        return scan.value;
+    }
+    match running {
+        Running::Begins => clocked(begun(settings, lent), settings, moment),
         Running::Continues => resumed(scan, settings, moment, true),
         Running::Stands => resumed(scan, settings, moment, false),
     }
@@ -155,36 +170,42 @@ pub(crate) fn updated(
 impl Scan {
     // The scan as a byte has to find it: counted to its moment, and its latch retained where the byte
     // could alter the row being shown.
-    #[tactic(auto, using(crate::proofs::Checks::lent_facts))]
     pub fn before_byte(
         self,
         settings: Settings,
         moment: Time,
         page: Option<u8>,
-        ram: &[u8],
-        icons: &[u8],
+        memory: Memory<'_>,
     ) -> Result<Scan, Refusal>
-        ensures { answered self result ≡ before_byte self settings moment page ram.now icons.now }
+        ensures { answered self result ≡ before_byte self settings moment page memory.entry.ram.now memory.entry.icons.now }
     {
-        check_lent(self, settings.valid(), moment, ram, icons)?;
-        let counted = latest(self, settings, moment);
-        Ok(retained(counted, settings, page, ram, icons))
+        let lent = check_lent(self, settings.valid(), moment, memory)?;
+        let counted = latest(
+            Checked { value: self },
+            Checked { value: settings },
+            Checked { value: moment },
+        );
+        Ok(retained(counted.value, settings, page, lent))
     }
 
     // The scan after a byte, with the settings and memory that it left.
-    #[tactic(auto, using(crate::proofs::Checks::lent_facts))]
     pub fn after_byte(
         self,
         settings: Settings,
         moment: Time,
         running: Running,
-        ram: &[u8],
-        icons: &[u8],
+        memory: Memory<'_>,
     ) -> Result<Scan, Refusal>
-        ensures { answered self result ≡ after_byte self settings moment running ram.now icons.now }
+        ensures { answered self result ≡ after_byte self settings moment running memory.entry.ram.now memory.entry.icons.now }
     {
-        check_lent(self, settings.valid(), moment, ram, icons)?;
-        Ok(updated(self, settings, moment, running, ram, icons))
+        let lent = check_lent(self, settings.valid(), moment, memory)?;
+        Ok(updated(
+            Checked { value: self },
+            Checked { value: settings },
+            Checked { value: moment },
+            running,
+            lent,
+        ))
     }
 
     // The scan after a fall of the supply: counted to its moment, and its clock dropped. The checks
@@ -198,11 +219,15 @@ impl Scan {
 
     // The scan after a warm rise of the supply, `runs` saying whether it runs. It counts as having
     // run before, so that none begins.
-    #[tactic(auto, using(crate::proofs::Checks::timed_facts))]
     pub fn rise(self, settings: Settings, now: Time, runs: bool) -> Result<Scan, Refusal>
         ensures { answered self result ≡ rise_scan self settings now runs }
     {
         check_moment(self, settings.valid(), now)?;
-        Ok(resumed(self, settings, now, runs))
+        Ok(resumed(
+            Checked { value: self },
+            Checked { value: settings },
+            Checked { value: now },
+            runs,
+        ))
     }
 }

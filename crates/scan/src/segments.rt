@@ -1,10 +1,11 @@
 // The active segments of a row as two words: its bits packed into planes, and what is active as a matter
 // of these words.
-ghost use Rattle.std.specs.Prelude.{◌≡◌, ◌+◌, ◌*◌, ◌^◌, ◌<◌, ◌≤◌, length};
+ghost use Rattle.std.specs.Prelude.{◌≡◌, ◌+◌, ◌*◌, ◌^◌, ◌<◌, ◌≤◌};
 ghost use Rattle.scan.specs.Latch.{shade_active, words as words_of};
 ghost use Rattle.scan.specs.Segments.{bits_at, active_shades, row_active, mask_of, pick, active_word, row_words};
 
 use crate::latch::ICON_ROW;
+use crate::memory::Lent;
 use crate::planes::{RowBits, shown_shade};
 use crate::settings::Settings;
 use crate::shade::pulse_width;
@@ -12,7 +13,6 @@ use crate::state::Scan;
 
 // The activity of what the two bits of a segment show, by their number: it holds for a whole row.
 pub(crate) fn active_shades(scan: Scan, settings: Settings) -> [bool; 4]
-    requires { scan.frc < 4 }
     ensures { result ≡ active_shades scan settings }
 {
     [
@@ -24,8 +24,6 @@ pub(crate) fn active_shades(scan: Scan, settings: Settings) -> [bool; 4]
 }
 
 fn shade_active(scan: Scan, settings: Settings, shade: u8) -> bool
-    requires shade_bound { shade < 4 }
-    requires frc_bound { scan.frc < 4 }
     ensures { result ≡ shade_active scan settings shade }
 {
     scan.step < pulse_width(settings, shade, scan.frc, scan.pwm)
@@ -86,31 +84,20 @@ fn both_words(bits: &RowBits, active: [bool; 4], reversed: bool) -> [u64; 2]
 }
 
 // The bits of a row of RAM, or of the icons.
-fn row_bits(row: u8, ram: &[u8], icons: &[u8]) -> RowBits
-    requires row_bound { row ≤ 128 }
-    requires ram_len { length ram.now ≡ 4096 }
-    requires icons_len { length icons.now ≡ 256 }
-    ensures { result.bits ≡ bits_at row ram.now icons.now }
+fn row_bits(row: u8, lent: Lent<'_>) -> RowBits
+    requires { row ≤ 128 }
+    ensures { result.bits ≡ bits_at row lent.entry.ram.now lent.entry.icons.now }
 {
     if row == ICON_ROW {
-        return RowBits::new(icons, 0);
+        return RowBits::new(lent.icons, 0);
     }
-    let at = usize::from(row / 8) * 256;
-    RowBits::new(&ram[at..at + 256], row % 8)
+    RowBits::of_ram(lent.ram, row)
 }
 
 // The latch of a row of RAM, or of the icons.
-pub(crate) fn row_words(
-    row: u8,
-    active: [bool; 4],
-    reversed: bool,
-    ram: &[u8],
-    icons: &[u8],
-) -> [u64; 2]
-    requires row_bound { row ≤ 128 }
-    requires ram_len { length ram.now ≡ 4096 }
-    requires icons_len { length icons.now ≡ 256 }
-    ensures { result ≡ row_words row active reversed ram.now icons.now }
+pub(crate) fn row_words(row: u8, active: [bool; 4], reversed: bool, lent: Lent<'_>) -> [u64; 2]
+    requires { row ≤ 128 }
+    ensures { result ≡ row_words row active reversed lent.entry.ram.now lent.entry.icons.now }
 {
-    both_words(&row_bits(row, ram, icons), active, reversed)
+    both_words(&row_bits(row, lent), active, reversed)
 }

@@ -1,11 +1,10 @@
 // The scan's own state, in groups: what one rule treats together is one struct.
-ghost use Rattle.std.specs.Prelude.{◌≡◌, true, Some};
-ghost use Rattle.clock.specs.Time.{in_range};
-ghost use Rattle.clock.specs.Rate.{is_lcd};
+ghost use Rattle.std.specs.Prelude.{◌≡◌, Some};
 ghost use Rattle.clock.specs.Edges.{started};
 ghost use Rattle.scan.specs.State.{with_ticking, power_on};
 
 use crate::settings::Frame;
+use checks::Checked;
 use clock::{Clock, Rate, Time};
 
 // The clock of the scan, where it runs, and the scan's rate.
@@ -45,13 +44,11 @@ pub struct Scan {
     pub inversion: Inversion,
 }
 
-// A clock that starts at a moment. An LCD rate and a moment in range are not refused.
-pub(crate) fn start_clock(at: Time, rate: Rate) -> Option<Clock>
-    requires at_value { in_range at ≡ true }
-    requires rate_value { is_lcd rate ≡ true }
-    ensures { result ≡ Some (started at rate) }
+// A clock that starts at a moment: such a moment and such a rate are not refused.
+pub(crate) fn start_clock(at: Checked<Time>, rate: Checked<Rate>) -> Option<Clock>
+    ensures { result ≡ Some (started at.value rate.value) }
 {
-    Clock::new(at, rate).ok()
+    Clock::new(at.value, rate.value).ok()
 }
 
 // The scan with another clock and rate.

@@ -18,7 +18,7 @@ use Rattle.clock.specs.Time.{raw}
 use Rattle.scan.specs.Drive.{active_in}
 use Rattle.controller.specs.Look.{drive_of}
 use Rattle.strike.specs.Calls.{Call, Machine, start, reply}
-use Rattle.decimal.specs.declared.Read.{Read}
+use Rattle.decimal.specs.Decimal.{Read}
 use Rattle.decimal.specs.Decimal.{field_at}
 use Rattle.decimal.specs.Print.{decimal, put}
 use Rattle.decimal.proofs.Printing.{decimal_small, decimal_few, decimal_three, put_length, put_within, put_whole}

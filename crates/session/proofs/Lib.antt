@@ -1,4 +1,5 @@
 -- The laws that proofs of functions use.
+mod Read
 mod Texts
 mod Listings
 mod Turns

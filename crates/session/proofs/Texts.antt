@@ -1,13 +1,12 @@
 -- A text line by line.
-use Prim.Native.Nat.{ℕ, suc, ◌+◌, ◌-◌, ◌≤◌, ◌<◌}
+use Prim.Native.Nat.{ℕ, suc, ◌+◌, ◌≤◌, ◌<◌}
 use mathlib.Core.Bool.{Bool, true, false, cond, not}
 use mathlib.Core.List.{List, [], ◌∷◌}
-use mathlib.Core.Path.{◌≡◌, refl, sym, ◌∙◌, ap}
+use mathlib.Core.Path.{◌≡◌, refl, sym}
 use native.Mathlib.Numerals.{one-add}
 use native.Mathlib.Omega.{arith}
 use lib.Dec.{eqb, ltb}
-use lib.ListN.{length, take, drop, length-drop, drop_of_length-le}
-use lib.Seq.{drop-drop}
+use lib.ListN.{length, take, drop, drop_of_length-le}
 use borrow.Author.Tests.{ltb-true, ltb-false}
 use Rattle.std.specs.Prelude.{Some, None}
 use Rattle.std.specs.List.{position, position_or_len}
@@ -103,25 +102,16 @@ lines_split : (l : List ℕ) → 0 < length l → lines_of l ≡ take (line_leng
 lines_split [] h = absurd (omega arith)
 lines_split (b ∷ l) h = lines_first b l
 
--- the lines from a place on
-module _ (s : List ℕ) (place : ℕ) where
-  pub no_lines_lem : length s ≤ place → lines_of (drop place s) ≡ []
-  unfolding lines_of
-  no_lines_lem h = rw (drop_of_length-le s h)
+pub no_lines : (l : List ℕ) → length l ≡ 0 → lines_of l ≡ []
+unfolding lines_of
+no_lines [] h = refl
+no_lines (b ∷ l) h = absurd (omega arith)
 
-  module _ (inside : place < length s) (end : ℕ) (ends : end ≡ place + line_length (drop place s)) where
-    some_left : 0 < length (drop place s)
-    some_left = simp length-drop (omega arith)
+-- the same behind the end of a text
+pub no_lines_lem : (s : List ℕ) (place : ℕ) → length s ≤ place → lines_of (drop place s) ≡ []
+unfolding lines_of
+no_lines_lem s place h = rw (drop_of_length-le s h)
 
-    pub end_behind : place < end
-    end_behind = omega (arith, line_positive (drop place s) some_left)
-
-    pub end_within : end ≤ length s
-    end_within = omega (arith, line_within (drop place s), length-drop place s)
-
-    pub next_lines : lines_of (drop place s) ≡ take (end - place) (drop place s) ∷ lines_of (drop end s)
-    next_lines =
-        let size : end - place ≡ line_length (drop place s) = omega arith in
-        lines_split (drop place s) some_left
-        ∙ ap (λ (l : List ℕ). take (line_length (drop place s)) (drop place s) ∷ lines_of l) (drop-drop (line_length (drop place s)) place s ∙ ap (λ (n : ℕ). drop n s) (sym ends))
-        ∙ ap (λ (n : ℕ). take n (drop place s) ∷ lines_of (drop end s)) (sym size)
+-- a text cut behind its first line
+pub next_lines : (l : List ℕ) → 0 < length l → (first others : List ℕ) → first ≡ take (line_length l) l → others ≡ drop (line_length l) l → first ∷ lines_of others ≡ lines_of l
+next_lines l h first others e f = rw (e, f) (sym (lines_split l h))

@@ -9,13 +9,16 @@ use Rattle.std.specs.Prelude.{Option, None, Some, Result, Ok, Err}
 use Rattle.checks.specs.Checks.{row, first_of, unless_refused, changed}
 use Rattle.clock.specs.declared.time.Time.{Time}
 use Rattle.clock.specs.Time.{raw, in_range}
+use Rattle.clock.specs.declared.check.Refusal as clocks
+use Rattle.clock.specs.Check as clocks-check
+use Rattle.scan.specs.Check.{by_clock}
 use Rattle.scan.specs.declared.drive.LcdDrive.{LcdDrive}
 use Rattle.scan.specs.declared.drive.Driven.{Driven}
 use Rattle.controller.specs.declared.state.Nt7508.{Nt7508}
 use Rattle.controller.specs.declared.check.Refusal.{Refusal}
 use Rattle.controller.specs.declared.bits.Received.{Received}
 use Rattle.controller.specs.declared.update.Updated.{Updated}
-use Rattle.controller.specs.Check.{refused, answered, check_state, check_moment, check_group}
+use Rattle.controller.specs.Check.{of_scan, refused, answered, check_state, check_moment, check_group}
 use Rattle.controller.specs.Bits.{Outcome, quiet, edges, unpacked, received, shift_in}
 use Rattle.controller.specs.Supply.{select, command_data, set_supply, set_temperature, at_deadline}
 use Rattle.controller.specs.Update.{answered_update, update}
@@ -28,6 +31,12 @@ use Rattle.session.specs.declared.session.Why.{Why}
 use Rattle.session.specs.Listing.{row_of, drive_line}
 use Rattle.session.specs.Session.{Turn, number, moment_of, refusal_of, after_of, shown_of, due_call, call_of, check_of, turn_of}
 use Rattle.session.specs.Closed.{printed_text, waited_of, machine_of, turned}
+
+-- the time check's refusal is a call's of the same number
+pub same_number : (why : clocks.Refusal) {r : Option ℕ} → Some (clocks-check.number why) ≡ r → refused {A = Unit} (Err (of_scan (by_clock why))) ≡ r
+same_number clocks.Refusal.Time e = e
+same_number clocks.Refusal.Rate e = e
+same_number clocks.Refusal.Clock e = e
 
 -- a refused call leaves what it was given
 left_back : {A B : Type 0} (f : A → B) (c : Option ℕ) (new given : A) → f (unless_refused c new given) ≡ unless_refused c (f (unless_refused c new given)) (f given)

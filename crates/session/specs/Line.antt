@@ -2,7 +2,7 @@
 -- after. Decimals are those of the crate `decimal`.
 use Rattle.std.specs.Prelude.{ℕ, cond, List, [], ◌∷◌, leb, eqb, nat_eq, pos, neg_ℤ, drop, get_or, Option, Some, None, option_map, option_and_then}
 use Rattle.std.specs.List.{starts_with}
-use Rattle.decimal.specs.declared.Read.{Read}
+use Rattle.decimal.specs.Decimal.{Read}
 use Rattle.decimal.specs.Decimal.{field_at}
 use Rattle.session.specs.declared.line.Action.{Action}
 use Rattle.session.specs.declared.line.Line.{Line}

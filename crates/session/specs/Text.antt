@@ -1,5 +1,5 @@
 -- Document 01, 'Session program': a text is bytes. Its first line is exactly `us call value`; a newline stands after each line.
-use Rattle.std.specs.Prelude.{ℕ, ◌+◌, Bool, cond, ◌&&◌, List, [], ◌∷◌, leb, eqb, nat_eq, length}
+use Rattle.std.specs.Prelude.{ℕ, ◌+◌, Bool, cond, ◌&&◌, List, [], ◌∷◌, leb, eqb, nat_eq, length, drop, Option, Some, None}
 use Rattle.std.specs.List.{starts_with}
 
 -- `us call value` and its newline
@@ -9,6 +9,10 @@ names_line = 117 ∷ 115 ∷ 32 ∷ 99 ∷ 97 ∷ 108 ∷ 108 ∷ 32 ∷ 118 ∷
 -- a text that is read: at most 65,536 bytes, the names line first
 unfoldable pub opens : List ℕ → Bool
 opens text = leb (length text) 65536 && starts_with nat_eq text names_line
+
+-- what follows the names line there
+abbrev pub opened : List ℕ → Option (List ℕ)
+opened text = cond (opens text) (Some (drop 14 text)) None
 
 -- the lines of what follows, each with its newline; the last may lack one
 unfoldable pub longer : ℕ → List (List ℕ) → List (List ℕ)

@@ -23,13 +23,12 @@ pub struct Line {
     pub action: Action,
 }
 
-// The value at a place, up to a largest one, with the newline behind it.
-#[tactic(auto, unfolding(crate::specs::Line::value_at))]
-fn value_at(s: &[u8], at: usize, most: u64) -> Option<u64>
-    ensures value { result ≡ value_of s.now at most }
+// The value that a text starts with, up to a largest one, with the newline behind it.
+fn value(text: &[u8], most: u64) -> Option<u64>
+    ensures value { result ≡ value_of text.now 0 most }
     ensures bound { IfSome result (λ value. value ≤ most) }
 {
-    let value = decimal::field(s, at, b'\n')?.value;
+    let value = decimal::field(text, b'\n')?.value;
     (value <= most).then_some(value)
 }
 
@@ -52,60 +51,59 @@ fn below_zero(value: u64) -> Option<Action>
     Some(Action::Temperature(negative(value)))
 }
 
-#[tactic(auto, unfolding(crate::specs::Line::temperature_at))]
-fn temperature_of(s: &[u8]) -> Option<Action>
-    ensures { result ≡ temperature_at s.now 5 6 }
+fn temperature_of(text: &[u8]) -> Option<Action>
+    ensures { result ≡ temperature_at text.now 0 1 }
 {
-    if s.get(5).copied() == Some(b'-') {
-        return below_zero(value_at(s, 6, 2147483648)?);
+    if let Some(rest) = text.strip_prefix(b"-") {
+        return below_zero(value(rest, 2147483648)?);
     }
-    Some(Action::Temperature(value_at(s, 5, 2147483647)? as i32))
+    Some(Action::Temperature(value(text, 2147483647)? as i32))
 }
 
-#[tactic(auto, unfolding(crate::specs::Line::look_of))]
-fn look_of(s: &[u8]) -> Option<Action>
-    ensures { result ≡ look_of s.now }
+fn look_of(text: &[u8]) -> Option<Action>
+    ensures { result ≡ look_of text.now }
 {
-    if s.starts_with(b"deadline ") {
-        return value_at(s, 9, 0).map(|_| Action::Deadline);
+    if let Some(rest) = text.strip_prefix(b"deadline ") {
+        value(rest, 0)?;
+        return Some(Action::Deadline);
     }
-    if s.starts_with(b"update ") {
-        return value_at(s, 7, 0).map(|_| Action::Update);
+    if let Some(rest) = text.strip_prefix(b"update ") {
+        value(rest, 0)?;
+        return Some(Action::Update);
     }
-    if s.starts_with(b"drive ") {
-        return value_at(s, 6, 0).map(|_| Action::Drive);
+    if let Some(rest) = text.strip_prefix(b"drive ") {
+        value(rest, 0)?;
+        return Some(Action::Drive);
     }
     None
 }
 
-#[tactic(auto, unfolding(crate::specs::Line::action_of))]
-fn action_of(s: &[u8]) -> Option<Action>
-    ensures { result ≡ action_of s.now }
+fn action_of(text: &[u8]) -> Option<Action>
+    ensures { result ≡ action_of text.now }
 {
-    if s.starts_with(b"byte ") {
-        return Some(Action::Byte(value_at(s, 5, 255)? as u8));
+    if let Some(rest) = text.strip_prefix(b"byte ") {
+        return Some(Action::Byte(value(rest, 255)? as u8));
     }
-    if s.starts_with(b"dc ") {
-        return Some(Action::Data(value_at(s, 3, 1)? == 1));
+    if let Some(rest) = text.strip_prefix(b"dc ") {
+        return Some(Action::Data(value(rest, 1)? == 1));
     }
-    if s.starts_with(b"select ") {
-        return Some(Action::Select(value_at(s, 7, 1)? == 1));
+    if let Some(rest) = text.strip_prefix(b"select ") {
+        return Some(Action::Select(value(rest, 1)? == 1));
     }
-    if s.starts_with(b"supply ") {
-        return Some(Action::Supply(value_at(s, 7, 65535)? as u16));
+    if let Some(rest) = text.strip_prefix(b"supply ") {
+        return Some(Action::Supply(value(rest, 65535)? as u16));
     }
-    if s.starts_with(b"temp ") {
-        return temperature_of(s);
+    if let Some(rest) = text.strip_prefix(b"temp ") {
+        return temperature_of(rest);
     }
-    look_of(s)
+    look_of(text)
 }
 
 // Reads a line, its newline included.
-#[tactic(auto, unfolding(crate::specs::Line::line_of))]
-pub(crate) fn line_of(s: &[u8]) -> Option<Line>
-    ensures { result ≡ line_of s.now }
+pub(crate) fn line_of(text: &[u8]) -> Option<Line>
+    ensures { result ≡ line_of text.now }
 {
-    let Read { value, next } = decimal::field(s, 0, b' ')?;
-    let action = action_of(&s[next..])?;
-    Some(Line { us: value, action })
+    let Read { value: us, rest } = decimal::field(text, b' ')?;
+    let action = action_of(rest)?;
+    Some(Line { us, action })
 }

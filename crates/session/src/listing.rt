@@ -1,4 +1,5 @@
-// The listing: a line for each drive, and one for a refusal.
+// The listing: a line for each drive, and one for a refusal. Its bytes and the place in them stand side by
+// side, as in `decimal`'s print, which says why.
 ghost use Rattle.std.specs.Prelude.{◌≡◌, [], ◌∷◌};
 ghost use Rattle.decimal.specs.Print.{put};
 ghost use Rattle.session.specs.Listing.{listing_names, field_text, inverted_field, lit_of, frame_field, row_of, drive_line, refusal_line};
@@ -6,7 +7,7 @@ ghost use Rattle.session.specs.Listing.{listing_names, field_text, inverted_fiel
 use decimal::{put_byte, put_bytes, put_number};
 use scan::Driven;
 
-// The fields that are printed of a drive.
+// The fields that are printed of a drive. (A drive itself is larger, by the segments that are only counted.)
 #[derive(Clone, Copy, Debug, PartialEq, Eq)]
 pub struct Row {
     pub lit: u64,

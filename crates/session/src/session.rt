@@ -1,8 +1,11 @@
 // A session: each line's call on the state and memory that the last one left.
-ghost use Rattle.std.specs.Prelude.{◌≡◌, leb, drop, Some};
-ghost use Rattle.checks.specs.Checks.{row};
-ghost use Rattle.clock.specs.Time.{raw, in_range};
-ghost use Rattle.controller.specs.Check.{refused as refused_by, answered as changed_to};
+//
+// State, RAM and icons are three parameters: in a struct of three `&mut`, a clause would name them by its
+// exit, and each function state besides that it keeps their references. `machine_of` makes one value of them.
+ghost use Rattle.std.specs.Prelude.{◌≡◌, ◌<◌, leb, length, Some};
+ghost use Rattle.clock.specs.Time.{raw};
+ghost use Rattle.scan.specs.Check.{by_clock};
+ghost use Rattle.controller.specs.Check.{of_scan, answered as changed_to};
 ghost use Rattle.decimal.specs.Print.{put};
 ghost use Rattle.strike.specs.Calls.{start as start_of};
 ghost use Rattle.session.specs.Text.{lines_of};
@@ -13,10 +16,11 @@ ghost use Rattle.session.specs.declared.session.Why.TheVariants.{Call};
 
 use crate::line::{Action, Line, line_of};
 use crate::listing::{Row, put_drive, put_names, put_refusal, row_of};
-use crate::text::{line_end, opens};
-use checks::Numbered;
+use crate::text::{line_length, lines_behind};
+use checks::{Check, Numbered};
 use clock::Time;
 use controller::{Nt7508, Refusal};
+use scan::Memory;
 
 // Why a session stops: its text, a lent listing that is too short, or a call's own refusal.
 #[derive(Clone, Copy, Debug, PartialEq, Eq)]
@@ -50,6 +54,14 @@ impl From<Refusal> for Why {
     }
 }
 
+impl From<clock::Refusal> for Why {
+    ghost from_gives = { λ refusal why. why ≡ Call (of_scan (by_clock refusal)) };
+
+    fn from(refusal: clock::Refusal) -> Why {
+        Why::Call(scan::Refusal::from(refusal).into())
+    }
+}
+
 impl Numbered for Why {
     ghost number = { number_of };
 
@@ -65,19 +77,8 @@ impl Numbered for Why {
 // The bytes of a listing that every text's fits into.
 const ROOM: usize = 589_824;
 
-// The place behind the names line.
-const NAMES_END: usize = 14;
-
-// The time check of a line whose call is not given its moment.
-fn timed(moment: Time) -> Result<(), Refusal>
-    ensures { refused_by result ≡ row 1 (in_range moment) }
-{
-    if !moment.in_range() {
-        return Err(Refusal::Time);
-    }
-    Ok(())
-}
-
+// Whether a wait has ended. (A function of its own: the proof knows the range of a parameter's fields, and
+// did not close in `waited`, where the end of the wait stands in an Option.)
 fn is_due(end: Time, moment: Time) -> bool
     ensures { result ≡ leb (raw end) (raw moment) }
 {
@@ -110,24 +111,24 @@ fn perform(
     match line.action {
         Action::Byte(value) => *state = state.shift_in(value, 8, moment, ram, icons)?.state,
         Action::Data(on) => {
-            timed(moment)?;
+            moment.check()?;
             *state = state.command_data(on)?;
         }
         Action::Select(on) => {
-            timed(moment)?;
+            moment.check()?;
             *state = state.select(on)?;
         }
         Action::Supply(millivolts) => *state = state.set_supply(millivolts, moment)?,
         Action::Temperature(t) => {
-            timed(moment)?;
+            moment.check()?;
             *state = state.set_temperature(t)?;
         }
         Action::Deadline => {
-            timed(moment)?;
+            moment.check()?;
             *state = waited(*state, moment)?;
         }
         Action::Update => *state = state.update(moment)?.state,
-        Action::Drive => return Ok(Some(row_of(state.drive(moment, ram, icons)?))),
+        Action::Drive => return Ok(Some(row_of(state.drive(moment, Memory { ram, icons })?))),
     }
     Ok(None)
 }
@@ -172,19 +173,20 @@ fn refused(state: Nt7508, out: &mut [u8], at: usize, stop: Stop) -> Ended
 
 // The lines from the second on.
 fn lines(text: &[u8], ram: &mut [u8], icons: &mut [u8], out: &mut [u8], start: usize) -> Ended
-    ensures { answered result ram.new icons.new out.new ≡ laid_from (out.old, start) (run_from 2 (lines_of (drop 14 text.now)) (start_of ram.old icons.old)) }
+    requires { length text.now < 65536 }
+    ensures { answered result ram.new icons.new out.new ≡ laid_from (out.old, start) (run_from 2 (lines_of text.now) (start_of ram.old icons.old)) }
 {
     let mut state = Nt7508::new();
     let mut at = start;
-    let mut place = NAMES_END;
+    let mut rest = text;
     let mut line: u64 = 2;
-    while place < text.len() {
-        let end = line_end(text, place);
-        match next_line(&text[place..end], &mut state, ram, icons, out, at) {
+    while !rest.is_empty() {
+        let (bytes, behind) = rest.split_at(line_length(rest));
+        match next_line(bytes, &mut state, ram, icons, out, at) {
             Ok(next) => at = next,
             Err(why) => return refused(state, out, at, Stop { why, line }),
         }
-        place = end;
+        rest = behind;
         line += 1;
     }
     Ended {
@@ -210,12 +212,12 @@ pub fn run(text: &[u8], ram: &mut [u8], icons: &mut [u8], out: &mut [u8]) -> End
         };
     }
     let at = put_names(out);
-    if !opens(text) {
+    let Some(rest) = lines_behind(text) else {
         let stop = Stop {
             why: Why::Line,
             line: 1,
         };
         return refused(Nt7508::new(), out, at, stop);
-    }
-    lines(text, ram, icons, out, at)
+    };
+    lines(rest, ram, icons, out, at)
 }

@@ -1,33 +1,36 @@
 // A text: its names line, and where its lines end.
-ghost use Rattle.std.specs.Prelude.{◌≡◌, nat_eq, ◌+◌, ◌<◌, length, drop};
+ghost use Rattle.std.specs.Prelude.{◌≡◌, nat_eq, ◌<◌, length, IfSome};
 ghost use Rattle.std.specs.List.{position};
-ghost use Rattle.session.specs.Text.{opens as opens_of, line_length};
+ghost use Rattle.decimal.specs.Rest.{rest_view};
+ghost use Rattle.session.specs.Text.{opened, line_length as length_of};
 
 // The most bytes that a text may have.
 const LONGEST: usize = 65536;
 
-// Whether a text is short enough and starts with the names line.
-#[tactic(auto, unfolding(crate::specs::Text::opens))]
-pub(crate) fn opens(text: &[u8]) -> bool
-    ensures { result ≡ opens_of text.now }
+// The lines behind the names line of a text, if it is short enough and starts with that line.
+pub(crate) fn lines_behind(text: &[u8]) -> Option<&[u8]>
+    ensures lines { rest_view result ≡ opened text.now }
+    ensures short { IfSome result (λ rest. length rest.now < 65536) }
 {
-    text.len() <= LONGEST && text.starts_with(b"us call value\n")
+    if text.len() > LONGEST {
+        return None;
+    }
+    text.strip_prefix(b"us call value\n")
 }
 
 // The place of the first newline, if there is one.
-fn newline(rest: &[u8]) -> Option<usize>
-    ensures { result ≡ position (λ b. nat_eq b 10) rest.now }
+fn newline(text: &[u8]) -> Option<usize>
+    ensures { result ≡ position (λ b. nat_eq b 10) text.now }
 {
-    rest.iter().position(|&byte| byte == b'\n')
+    text.iter().position(|&byte| byte == b'\n')
 }
 
-// Where the line ends that starts at a place: behind its newline, or at the end of the text.
-pub(crate) fn line_end(text: &[u8], at: usize) -> usize
-    requires { at < length text.now }
-    ensures { result ≡ at + line_length (drop at text.now) }
+// How many bytes the first line of a text has, its newline included; the last line may lack one.
+pub(crate) fn line_length(text: &[u8]) -> usize
+    ensures { result ≡ length_of text.now }
 {
-    match newline(&text[at..]) {
-        Some(newline) => at + newline + 1,
+    match newline(text) {
+        Some(newline) => newline + 1,
         None => text.len(),
     }
 }

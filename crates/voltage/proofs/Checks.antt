@@ -1,11 +1,13 @@
--- Number 3's conditions, one by one.
+-- Number 3's conditions, one by one, and what a passed check says.
 use Prim.Native.Nat.{◌≤◌}
 use mathlib.Core.Bool.{true}
 use mathlib.Core.Path.{◌≡◌}
+use Rattle.std.specs.Prelude.{None}
 use borrow.Author.Tests.{leb-true}
 use Rattle.checks.proofs.Tests.{both}
+use Rattle.checks.proofs.Chains.{row_passed}
 use Rattle.voltage.specs.declared.Settings.{Settings}
-use Rattle.voltage.specs.Check.{valid_booster, valid_settings}
+use Rattle.voltage.specs.Check.{valid_booster, valid_settings, settings_row}
 
 pub record InRange (s : Settings) : Type 0 where
   pub contrast : s.contrast ≤ 63
@@ -37,3 +39,9 @@ in_range_lem s valid =
       contrast_trim = leb-true _ _ b.1;
       otp_control = leb-true _ _ a.1;
     }
+
+pub settings_passed : (s : Settings) → settings_row s ≡ None → InRange s
+settings_passed s h = in_range_lem s (row_passed 3 _ h)
+
+pub trim_passed : (s : Settings) → settings_row s ≡ None → s.contrast_trim ≤ 15
+trim_passed s h = (settings_passed s h).contrast_trim

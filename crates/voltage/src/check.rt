@@ -1,10 +1,10 @@
 // The check of the settings: number 3 of document 01's table.
 ghost use Rattle.std.specs.Prelude.{◌≡◌};
-ghost use Rattle.voltage.specs.Check.{number as number_of, valid_booster, valid_settings};
+ghost use Rattle.voltage.specs.Check.{number as number_of, valid_booster, valid_settings, settings_row};
 
 use crate::Settings;
 use crate::target::has_bit;
-use checks::Numbered;
+use checks::{Check, Numbered};
 
 // Why a call is turned down: `number` of specs/Check.antt gives it its number.
 #[derive(Clone, Copy, Debug, PartialEq, Eq)]
@@ -43,5 +43,19 @@ impl Settings {
             & (self.temperature_slope <= 1)
             & (self.contrast_trim <= 15)
             & (self.otp_control <= 3)
+    }
+}
+
+// Number 3.
+impl Check for Settings {
+    type Refusal = Refusal;
+
+    ghost refusal = { settings_row };
+
+    fn check(self) -> Result<(), Refusal> {
+        if !self.valid() {
+            return Err(Refusal::Settings);
+        }
+        Ok(())
     }
 }

@@ -5,6 +5,7 @@ ghost use Rattle.voltage.specs.Finder.{in_band, Says};
 
 use crate::target::{base_of, gain_of, microvolts_of, temperature_factor};
 use crate::{Refusal, Settings};
+use checks::Checked;
 
 // A regulator and a contrast setting.
 #[derive(Clone, Copy, Debug, PartialEq, Eq)]
@@ -16,7 +17,9 @@ pub struct Pair {
 // Whether the target with this contrast lies in the band, `scaled` being t x gain and `base` what
 // the contrast is added to.
 fn in_band(low: u32, high: u32, scaled: u64, base: u64, contrast: u8) -> bool
-    requires { (scaled < 2 ^ 49) × ((base ≤ 154) × (contrast < 64)) }
+    requires scaled_bound { scaled < 2 ^ 49 }
+    requires base_bound { base ≤ 154 }
+    requires contrast_bound { contrast < 64 }
     ensures { result ≡ in_band low high (rounded (scaled * (base + contrast))) }
 {
     let v = microvolts_of(scaled, base + u64::from(contrast));
@@ -35,11 +38,9 @@ pub fn find_setting(
 ) -> Result<Option<Pair>, Refusal>
     ensures { Says settings temperature low high result }
 {
-    if !settings.valid() {
-        return Err(Refusal::Settings);
-    }
-    let factor = temperature_factor(settings.temperature_slope, temperature);
-    let base = base_of(settings.contrast_trim, settings.otp_control);
+    let settings = Checked::new(settings)?;
+    let factor = temperature_factor(settings.value.temperature_slope, temperature);
+    let base = base_of(settings);
     for regulator in 0..8u8 {
         let scaled = factor * gain_of(regulator);
         for contrast in 0..64u8 {

@@ -1,11 +1,11 @@
 // The pump and V0 to V4. Conditions are joined by `&`: each is a plain test, and without branches
 // the code has the shape of the rule.
-ghost use Rattle.std.specs.Prelude.{◌≡◌, true, ◌≤◌, ◌<◌};
-ghost use Rattle.voltage.specs.Check.{valid_settings};
+ghost use Rattle.std.specs.Prelude.{◌≡◌, ◌≤◌, ◌<◌};
 ghost use Rattle.voltage.specs.Voltage.{works_at, multiple, level_at, pump_present, pump, above, v0_present, share, voltages};
 
 use crate::target::{has_bit, target_of};
 use crate::{LcdVoltages, Settings, Supply};
+use checks::Checked;
 
 // Whether the analog part works at this temperature.
 fn works_at(temperature: i32) -> bool
@@ -62,7 +62,8 @@ fn v0_present(power_control: u8, target: u32, pump: Option<u32>) -> bool
 // f of n parts of the target, to the nearest.
 #[tactic(auto, unfolding(crate::specs::Voltage::share))]
 fn share_of(target: u32, n: u8, f: u8) -> u32
-    requires { (0 < n) × (f ≤ n) }
+    requires n_nonzero { 0 < n }
+    requires f_bound { f ≤ n }
     ensures { result ≡ share target n f }
 {
     let parts = u64::from(n);
@@ -70,18 +71,19 @@ fn share_of(target: u32, n: u8, f: u8) -> u32
 }
 
 fn share_level(present: bool, target: u32, n: u8, f: u8) -> Option<u32>
-    requires { (0 < n) × (f ≤ n) }
+    requires n_nonzero { 0 < n }
+    requires f_bound { f ≤ n }
     ensures { result ≡ level_at present (share target n f) }
 {
     // A division is slow, so it is done for a level that is present only.
     present.then(|| share_of(target, n, f))
 }
 
-pub(crate) fn voltages_of(settings: Settings, supply: Supply) -> LcdVoltages
-    requires { valid_settings settings ≡ true }
-    ensures { result ≡ voltages settings supply }
+pub(crate) fn voltages_of(settings: Checked<Settings>, supply: Supply) -> LcdVoltages
+    ensures { result ≡ voltages settings.value supply }
 {
     let target = target_of(settings, supply.temperature_millicelsius);
+    let settings = settings.value;
     let pump = pump_of(settings, supply);
     let present = v0_present(settings.power_control, target, pump);
     let divided = present & has_bit(settings.power_control, 0);

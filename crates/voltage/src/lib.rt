@@ -7,6 +7,8 @@ ghost use Rattle.std.specs.Prelude.{◌≡◌};
 ghost use Rattle.voltage.specs.Voltage.{off};
 ghost use Rattle.voltage.specs.Answers.{answered, answer_of};
 
+use checks::Checked;
+
 mod check;
 pub mod finder;
 mod levels;
@@ -75,8 +77,6 @@ fn off_voltages() -> LcdVoltages
 pub fn voltages(settings: Settings, supply: Supply) -> Result<LcdVoltages, Refusal>
     ensures { answered result ≡ answer_of settings supply }
 {
-    if !settings.valid() {
-        return Err(Refusal::Settings);
-    }
+    let settings = Checked::new(settings)?;
     Ok(levels::voltages_of(settings, supply))
 }

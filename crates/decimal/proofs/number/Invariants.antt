@@ -4,12 +4,13 @@ use lib.ListN.{length, drop}
 use Rattle.decimal.specs.Decimal.{digits, spelt}
 use Rattle.decimal.proofs.number.Given as goal
 
-abbrev pub invariant-loop-at : goal.invariant-loop-at
-invariant-loop-at l =
-    (l.at ≤ l.i)
-    × ((spelt (drop l.i l.s) l.value ≡ spelt (drop l.at l.s) 0)
-    × ((digits (drop l.at l.s) ≡ (l.i - l.at) + digits (drop l.i l.s))
-    × (l.value < 2 ^ 64)))
+abbrev pub invariant-loop-next : goal.invariant-loop-next
+invariant-loop-next l =
+    (length l.rest ≤ length l.text)
+    × ((drop (length l.text - length l.rest) l.text ≡ l.rest)
+    × ((spelt l.rest l.value ≡ spelt l.text 0)
+    × ((digits l.text ≡ (length l.text - length l.rest) + digits l.rest)
+    × (l.value < 2 ^ 64))))
 
-abbrev pub decreases-loop-at : goal.decreases-loop-at
-decreases-loop-at l = length l.s - l.i
+abbrev pub decreases-loop-next : goal.decreases-loop-next
+decreases-loop-next l = length l.rest

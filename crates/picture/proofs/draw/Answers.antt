@@ -28,8 +28,8 @@ returns-in-Err c =
     ∙ ap (put (a.out.now, 0)) (drawn_refused a.text.now (number c.in-Err.stop.why) c.in-Err.stop.line (sym (end_refusal c.run-ended.result _ _ _ _ c.run-ended.ensures (enough 589824)) ∙ ap refused_at c.in-Err.is))
     ∙ put_drawn a.text.now a.out.now c.told-out
 
-pub put_picture-requires : goal.put_picture-requires
-put_picture-requires c = end_state c.run-ended.result _ _ _ _ c.run-ended.ensures (enough 589824)
+pub invariant_of-put_picture : goal.invariant_of-put_picture
+invariant_of-put_picture c = record { passes = end_state c.run-ended.result _ _ _ _ c.run-ended.ensures (enough 589824) }
 
 pub returns-in-Ok : goal.returns-in-Ok
 unfolding zeros

@@ -12,9 +12,9 @@ returns c =
     let a = c.args in
     c.put_grays.ensures
     ∙ ap (λ (q : List ℕ × ℕ). put q (map gray_of c.render.new.pixels)) c.put_bytes-at.ensures
-    ∙ picture_put a.state c.requires a.ram.now a.icons.now _ (search rules) (search rules) (search rules) c.render.result _ (a.out.now, 0) c.render.ensures
+    ∙ picture_put a.state.value a.state.passes a.ram.now a.icons.now _ (search rules) (search rules) (search rules) c.render.result _ (a.out.now, 0) c.render.ensures
 
 pub unwrap-requires : goal.unwrap-requires
 unwrap-requires c =
     let a = c.args in
-    paints a.state c.requires a.ram.now a.icons.now _ (search rules) (search rules) (search rules) c.render.result _ c.render.ensures
+    paints a.state.value a.state.passes a.ram.now a.icons.now _ (search rules) (search rules) (search rules) c.render.result _ c.render.ensures

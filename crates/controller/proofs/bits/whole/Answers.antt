@@ -7,42 +7,42 @@ use Rattle.controller.proofs.bits.whole.Goals as goal
 
 pub overflow_sub-needed : goal.overflow_sub-needed
 overflow_sub-needed c =
-    omega (arith, bits_under _ (registers_passed _ _ _ _ _ _ c.requires.icons_value).registers_ok_lem)
+    omega (arith, bits_under _ (registers_passed _ _ _ _ _ _ c.requires.registers).registers_ok_lem)
 
 pub overflow_sub-rest : goal.overflow_sub-rest
 overflow_sub-rest c =
     omega (arith, (completed _ _ c.requires.count_value).1)
 
 pub overflow_shr-bits : goal.overflow_shr-bits
-overflow_shr-bits c = rest_below _ _ _ _ _ _ c.requires.icons_value
+overflow_shr-bits c = rest_below _ _ _ _ _ _ c.requires.registers
 
-pub byte-requires-clause-icons_value : goal.byte-requires-clause-icons_value
-byte-requires-clause-icons_value c = (registers_passed _ _ _ _ _ _ c.requires.icons_value).memory
+pub byte-requires-clause-memory_value : goal.byte-requires-clause-memory_value
+byte-requires-clause-memory_value c = (registers_passed _ _ _ _ _ _ c.requires.registers).memory
 
-pub byte-requires-clause-moment_value : goal.byte-requires-clause-moment_value
-byte-requires-clause-moment_value c = (registers_passed _ _ _ _ _ _ c.requires.icons_value).in_range_lem
+pub invariant_of-taken : goal.invariant_of-taken
+invariant_of-taken c = record { passes = rw (registers_passed _ _ _ _ _ _ c.requires.registers).in_range_lem }
 
 pub byte-requires-clause-state_value : goal.byte-requires-clause-state_value
 byte-requires-clause-state_value c =
-    simp c.with_bits.ensures (bits_registers _ 0 0 (omega arith) (registers_passed _ _ _ _ _ _ c.requires.icons_value).registers_ok_lem)
+    simp c.with_bits.ensures (bits_registers _ 0 0 (omega arith) (registers_passed _ _ _ _ _ _ c.requires.registers).registers_ok_lem)
 
 pub returns-in_err-stepped : goal.returns-in_err-stepped
 returns-in_err-stepped c =
     let p = err_from_is_err_and c.from_residual.result c.from_residual.ensures.1 in
-    rw (p.1, p.2) (whole_refused _ _ _ _ _ _ c.requires.icons_value c.with_bits.ensures c.joined-value.result c.byte.ensures c.in_err-stepped.was)
+    rw (p.1, p.2) (whole_refused _ _ _ _ _ _ c.requires.registers c.with_bits.ensures c.joined-value.result c.byte.ensures c.in_err-stepped.was)
 
 pub overflow_shl-rest : goal.overflow_shl-rest
-overflow_shl-rest c = rest_below _ _ _ _ _ _ c.requires.icons_value
+overflow_shl-rest c = rest_below _ _ _ _ _ _ c.requires.registers
 
 pub nonzero_rem-bits : goal.nonzero_rem-bits
-nonzero_rem-bits c = rw (one_shifted 8 _ (rest_below _ _ _ _ _ _ c.requires.icons_value)) (pow_pos _)
+nonzero_rem-bits c = rw (one_shifted 8 _ (rest_below _ _ _ _ _ _ c.requires.registers)) (pow_pos _)
 
 pub grown-stepped-requires : goal.grown-stepped-requires
 grown-stepped-requires c =
-    let none = whole_bits _ _ _ _ _ _ c.requires.icons_value c.with_bits.ensures c.joined-value.result c.byte.ensures c.in_ok-stepped.was _ _ c.joined-value.ensures in
-    omega (arith, none, rest_below _ _ _ _ _ _ c.requires.icons_value)
+    let none = whole_bits _ _ _ _ _ _ c.requires.registers c.with_bits.ensures c.joined-value.result c.byte.ensures c.in_ok-stepped.was _ _ c.joined-value.ensures in
+    omega (arith, none, rest_below _ _ _ _ _ _ c.requires.registers)
 
 pub returns : goal.returns
 returns c =
-    simp (c.grown-stepped.ensures, one_shifted 8 _ (rest_below _ _ _ _ _ _ c.requires.icons_value))
-    (whole_passed _ _ _ _ _ _ c.requires.icons_value c.with_bits.ensures c.joined-value.result c.byte.ensures c.in_ok-stepped.was c.requires.count_value c.joined-value.ensures)
+    simp (c.grown-stepped.ensures, one_shifted 8 _ (rest_below _ _ _ _ _ _ c.requires.registers))
+    (whole_passed _ _ _ _ _ _ c.requires.registers c.with_bits.ensures c.joined-value.result c.byte.ensures c.in_ok-stepped.was c.requires.count_value c.joined-value.ensures)

@@ -15,4 +15,4 @@ returns-then-count-gt8 c = simp (lt-leb _ 8 c.if-count-gt8.true)
 
 pub returns : goal.returns
 unfolding group_ok
-returns c = let small = c.if-count-gt8.false in simp (le-leb _ 8 small, shifted _ small)
+returns c = let small = c.if-count-gt8.false in simp (c.from.ensures, le-leb _ 8 small, shifted _ small)

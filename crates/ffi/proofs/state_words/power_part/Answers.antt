@@ -8,4 +8,4 @@ pub returns : goal.returns
 unfolding power_part
 returns c =
     let back = to_z-of_z {w = w32} {z = c.args.power.temperature_millicelsius} (search rules) in
-    simp (c.words-r.ensures, c.temperature_word.ensures, back)
+    simp (c.words-r.ensures, c.temperature_word.ensures, back, c.from.ensures, c.from-2.ensures, c.from-3.ensures, c.from-4.ensures, c.from-5.ensures, c.from-6.ensures)

@@ -1,18 +1,12 @@
 use Rattle.checks.proofs.Tests.{test_false, test_true}
 use Rattle.scan.specs.Drive.{drive_at, frame_at}
-use Rattle.scan.proofs.Drives.{counted_passes}
 use Rattle.scan.proofs.drive.driven_at.Goals as goal
 
 pub returns-then-not-driven : goal.returns-then-not-driven
 unfolding drive_at frame_at
 returns-then-not-driven c = simp (test_false c.driven.ensures c.if-not-driven.true, c.undriven.ensures)
 
-pub drive_of-requires-clause-scan_value : goal.drive_of-requires-clause-scan_value
-drive_of-requires-clause-scan_value c =
-    let g = c.requires in
-    rw c.latest-latest.ensures (counted_passes _ _ _ g.moment_value g.settings_value g.scan_value)
-
 pub returns : goal.returns
 unfolding drive_at frame_at
 returns c =
-    simp (test_true c.driven.ensures c.if-not-driven.false, c.quanta_of.ensures, c.drive_of.ensures, c.latest-latest.ensures)
+    simp (test_true c.driven.ensures c.if-not-driven.false, c.quanta_of.ensures, c.drive_of.ensures, c.latest.ensures)

@@ -7,9 +7,6 @@ pub loop-phase-init : goal.loop-phase-init
 unfolding widths
 loop-phase-init c = refl
 
-pub pulse_width-requires-clause-phase_bound : goal.pulse_width-requires-clause-phase_bound
-pulse_width-requires-clause-phase_bound c = omega (arith, c.frc_count_of-phase-end.ensures, (frc_bounds c.args.settings.gray_mode).1)
-
 pub overflow_add-sum : goal.overflow_add-sum
 overflow_add-sum c =
     let a = c.args in

@@ -1,13 +1,11 @@
 use Rattle.std.proofs.Common.{sym}
-use Rattle.scan.specs.Latch.{latch_retained, retained}
-use Rattle.scan.specs.State.{with_latch}
+use Rattle.scan.specs.Latch.{retained}
 use Rattle.scan.proofs.latch.retained.Goals as goal
 
-pub returns-then-scan-affected : goal.returns-then-scan-affected
+pub returns-then-stays_shown : goal.returns-then-stays_shown
 unfolding retained
-returns-then-scan-affected c = simp (sym c.latched_row.ensures, sym c.affected.ensures, c.if-scan-affected.true)
+returns-then-stays_shown c = simp (sym c.stays_shown.ensures, c.if-stays_shown.true)
 
 pub returns : goal.returns
-unfolding retained latch_retained with_latch
-returns c =
-    simp (sym c.latched_row.ensures, sym c.affected.ensures, c.if-scan-affected.false, c.present_latch-segments.ensures)
+unfolding retained
+returns c = simp (sym c.stays_shown.ensures, c.if-stays_shown.false, c.latch_retained.ensures)

@@ -1,13 +1,14 @@
-use Rattle.std.proofs.Common.{arith}
-use Rattle.scan.specs.Run.{begun, taken}
-use Rattle.scan.specs.State.{with_latch}
-use Rattle.scan.specs.Latch.{latch_retained}
+use Rattle.checks.proofs.Chains.{row_passed}
+use Rattle.scan.specs.Run.{begun}
+use Rattle.scan.proofs.Runs.{begun_passes}
 use Rattle.scan.proofs.run.begun.Goals as goal
 
-pub present_latch-requires-clause-frc_bound : goal.present_latch-requires-clause-frc_bound
-unfolding taken
-present_latch-requires-clause-frc_bound c = rw c.taken-scan.ensures (omega arith)
+pub invariant_of-result : goal.invariant_of-result
+unfolding begun
+invariant_of-result c =
+    let a = c.args in
+    record { passes = begun_passes c.taken-taken.result a.settings.value a.lent.ram.now a.lent.icons.now (row_passed 3 _ a.settings.passes) (simp (c.latch_retained.ensures, c.taken-taken.ensures)) }
 
 pub returns : goal.returns
-unfolding begun latch_retained with_latch taken
-returns c = simp (c.present_latch.ensures, c.taken-scan.ensures)
+unfolding begun
+returns c = simp (c.latch_retained.ensures, c.taken-taken.ensures)

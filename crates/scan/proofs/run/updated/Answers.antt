@@ -1,10 +1,7 @@
+use Rattle.std.proofs.Common.{sym, ◌∙◌}
 use Rattle.scan.specs.Run.{updated}
-use Rattle.scan.proofs.Runs.{begun_passes}
+use Rattle.scan.proofs.Steady.{settled_same}
 use Rattle.scan.proofs.run.updated.Goals as goal
-
-pub clocked-requires-clause-scan_value : goal.clocked-requires-clause-scan_value
-clocked-requires-clause-scan_value c =
-    let g = c.requires in begun_passes c.args.scan c.args.settings _ _ g.settings_value c.begun.ensures
 
 pub returns-in-Begins : goal.returns-in-Begins
 unfolding updated
@@ -18,3 +15,6 @@ returns-in-Continues c = simp (c.in-Continues.is, c.resumed.ensures)
 pub returns-in-Stands : goal.returns-in-Stands
 unfolding updated
 returns-in-Stands c = simp (c.in-Stands.is, c.resumed-in-Stands.ensures)
+
+pub returns-then-settled : goal.returns-then-settled
+returns-then-settled c = sym (settled_same _ _ _ _ _ _ (sym c.settled.ensures ∙ c.if-settled.true))

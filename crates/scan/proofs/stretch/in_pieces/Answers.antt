@@ -1,5 +1,6 @@
 use Rattle.std.proofs.Common.{sym, ap, ◌∙◌, arith}
 use Rattle.std.specs.Prelude.{Ok}
+use Rattle.checks.proofs.Chains.{row_passed}
 use Rattle.std.proofs.lemmas.Result.{err_from_is_err_and}
 use Rattle.scan.specs.declared.count.Counted.{Counted}
 use Rattle.scan.specs.Count.{answered_count}
@@ -7,7 +8,7 @@ use Rattle.scan.proofs.Stretches.{left_all, left_few, left_stopped, left_refused
 use Rattle.scan.proofs.stretch.in_pieces.Goals as goal
 
 pub loop-from-init : goal.loop-from-init
-loop-from-init c = left_all _ _ _ (rw c.rebuilt-from.ensures (c.requires.value, (c.requires.settings_value, c.requires.scan_value)))
+loop-from-init c = left_all _ _ _ (rw c.rebuilt-from.ensures (row_passed 1 _ c.args.now.passes, (row_passed 3 _ c.args.settings.passes, c.requires)))
 
 pub counted_as-requires : goal.counted_as-requires
 counted_as-requires c =
@@ -34,17 +35,17 @@ returns-then-passed-eq0 c =
     (ap (λ (r : Counted). answered_count c.args.scan (Ok r)) c.counted_as-then-passed-eq0.ensures
     ∙ left_zero c.loop-from.invariant c.in-Some.is c.stretch_limit-limit.ensures _ c.passed_to.ensures c.in_ok-passed.was c.if-passed-eq0.true)
 
-pub stretch-run-requires-clause-scan_value : goal.stretch-run-requires-clause-scan_value
-stretch-run-requires-clause-scan_value c =
-    (left_asked c.loop-from.invariant c.in-Some.is c.stretch_limit-limit.ensures _ c.passed_to.ensures c.in_ok-passed.was c.if-passed-eq0.false).0
+pub invariant_of-due : goal.invariant_of-due
+invariant_of-due c =
+    record { few = (left_asked c.loop-from.invariant c.in-Some.is c.stretch_limit-limit.ensures _ c.passed_to.ensures c.in_ok-passed.was c.if-passed-eq0.false).1.1.0 }
 
-pub stretch-run-requires-clause-quanta_bound : goal.stretch-run-requires-clause-quanta_bound
-stretch-run-requires-clause-quanta_bound c =
-    (left_asked c.loop-from.invariant c.in-Some.is c.stretch_limit-limit.ensures _ c.passed_to.ensures c.in_ok-passed.was c.if-passed-eq0.false).1.1.0
+pub invariant_of-due-in-loop-from : goal.invariant_of-due-in-loop-from
+invariant_of-due-in-loop-from c =
+    record { at_in_range = (left_asked c.loop-from.invariant c.in-Some.is c.stretch_limit-limit.ensures _ c.passed_to.ensures c.in_ok-passed.was c.if-passed-eq0.false).1.1.1 }
 
-pub stretch-run-requires-clause-at_value : goal.stretch-run-requires-clause-at_value
-stretch-run-requires-clause-at_value c =
-    (left_asked c.loop-from.invariant c.in-Some.is c.stretch_limit-limit.ensures _ c.passed_to.ensures c.in_ok-passed.was c.if-passed-eq0.false).1.1.1
+pub invariant_of-stretch : goal.invariant_of-stretch
+invariant_of-stretch c =
+    record { passes = (left_asked c.loop-from.invariant c.in-Some.is c.stretch_limit-limit.ensures _ c.passed_to.ensures c.in_ok-passed.was c.if-passed-eq0.false).0 }
 
 pub overflow_add-before : goal.overflow_add-before
 overflow_add-before c =

@@ -1,12 +1,12 @@
 use Rattle.std.proofs.Math.Facts.{to_z-of_z}
 use mir.Syntax.{w32}
 use Rattle.voltage.specs.Voltage.{voltages, levels}
-use Rattle.voltage.proofs.Checks.{in_range_lem}
+use Rattle.voltage.proofs.Checks.{settings_passed}
 use native.Mathlib.Omega.{arith}
 use Rattle.voltage.proofs.levels.voltages_of.Goals as goal
 
 pub overflow_add-n : goal.overflow_add-n
-overflow_add-n c = omega (arith, (in_range_lem _ c.requires).bias)
+overflow_add-n c = omega (arith, (settings_passed _ c.args.settings.passes).bias)
 
 pub returns : goal.returns
 unfolding voltages levels

@@ -5,4 +5,4 @@ use Rattle.clock.proofs.edges.Clock.check.Goals as goal
 -- written out, so that at a wrong number a fact fails, and not a limit of the search
 pub returns-then-not-valid : goal.returns-then-not-valid
 unfolding check_clock
-returns-then-not-valid c = rw (← c.in_ok-check.ensures, test_false c.valid.ensures c.if-not-valid.true)
+returns-then-not-valid c = rw (← c.in_ok-rate.ensures.refuses, ← c.in_ok-rate.ensures.keeps, test_false c.valid.ensures c.if-not-valid.true)
