@@ -12,6 +12,7 @@
 //     refused; the sums of the block, of RAM and of icons after it. A sum starts at 0, and each byte,
 //     or each word as its high and its low half, adds as in replay's `added`.
 use clock::Time;
+use ffi::Block;
 use ffi::controller_words::{
     nt7508_controller_at_deadline, nt7508_controller_command_data, nt7508_controller_lose_volatile,
     nt7508_controller_restore, nt7508_controller_rising, nt7508_controller_select,
@@ -22,8 +23,8 @@ use ffi::look_words::{
     nt7508_controller_deadline, nt7508_controller_drive, nt7508_controller_find_setting,
     nt7508_controller_render, nt7508_controller_serial_effect_edges, nt7508_controller_voltages,
 };
-use replay::{Cases, Replayed, added, fill, sum_of, sum_of_words};
-use scan::Memory;
+use replay::{Cases, Kind, Numbers, Replayed, added, fill_memory, sum_of, sum_of_words};
+use scan::{IMAGE_BYTES, Icons, Memory, Ram};
 
 // The number of a call, and the sum of what it gives. A list has both of each call, so this is no Result.
 #[derive(Clone, Copy, PartialEq)]
@@ -47,7 +48,52 @@ fn gives(number: u64, words: &[u64]) -> Given {
     }
 }
 
-fn moment_of(w: &[u64; 108]) -> Time {
+// The call of a line.
+#[derive(Clone, Copy)]
+enum Call {
+    Rising,
+    ShiftIn,
+    Select,
+    CommandData,
+    SetSupply,
+    SetTemperature,
+    LoseVolatile,
+    AtDeadline,
+    Update,
+    Restore,
+    Drive,
+    Render,
+    Voltages,
+    SerialEffectEdges,
+    Deadline,
+    FindSetting,
+}
+
+// No number is refused: the last call has all from 15 on.
+impl From<u64> for Call {
+    fn from(number: u64) -> Call {
+        match number {
+            0 => Call::Rising,
+            1 => Call::ShiftIn,
+            2 => Call::Select,
+            3 => Call::CommandData,
+            4 => Call::SetSupply,
+            5 => Call::SetTemperature,
+            6 => Call::LoseVolatile,
+            7 => Call::AtDeadline,
+            8 => Call::Update,
+            9 => Call::Restore,
+            10 => Call::Drive,
+            11 => Call::Render,
+            12 => Call::Voltages,
+            13 => Call::SerialEffectEdges,
+            14 => Call::Deadline,
+            _ => Call::FindSetting,
+        }
+    }
+}
+
+fn moment_of(w: &Numbers) -> Time {
     Time {
         seconds: w[3],
         fraction: w[4],
@@ -57,17 +103,17 @@ fn moment_of(w: &[u64; 108]) -> Time {
 // A state and its memory, on which the calls of a list work.
 #[derive(Drop)]
 pub(crate) struct Machine {
-    pub(crate) block: [u64; 75],
-    pub(crate) ram: [u8; 4096],
-    pub(crate) icons: [u8; 256],
+    pub(crate) block: Block,
+    pub(crate) ram: Ram,
+    pub(crate) icons: Icons,
 }
 
 impl Machine {
     pub(crate) fn new() -> Self {
         Self {
-            block: [0; 75],
-            ram: [0; 4096],
-            icons: [0; 256],
+            block: [0; _],
+            ram: [0; _],
+            icons: [0; _],
         }
     }
 
@@ -87,7 +133,7 @@ impl Machine {
         ] == sums
     }
 
-    fn rising(&mut self, w: &[u64; 108]) -> Given {
+    fn rising(&mut self, w: &Numbers) -> Given {
         let mut event = [0u64; 8];
         let number = nt7508_controller_rising(
             &mut self.block,
@@ -100,7 +146,7 @@ impl Machine {
         gives(number, &event)
     }
 
-    fn shift_in(&mut self, w: &[u64; 108]) -> Given {
+    fn shift_in(&mut self, w: &Numbers) -> Given {
         let mut event = [0u64; 8];
         let number = nt7508_controller_shift_in(
             &mut self.block,
@@ -114,23 +160,31 @@ impl Machine {
         gives(number, &event)
     }
 
-    // Calls that change the state, and give nothing.
-    fn changed(&mut self, w: &[u64; 108]) -> u64 {
-        let block = &mut self.block;
-        match w[0] {
-            2 => nt7508_controller_select(block, w[1] != 0),
-            3 => nt7508_controller_command_data(block, w[1] != 0),
-            4 => nt7508_controller_set_supply(block, (w[1] % 65536) as u16, moment_of(w)),
-            5 => nt7508_controller_set_temperature(block, ffi::temperature_of(w[1])),
-            _ => nt7508_controller_at_deadline(block, moment_of(w)),
-        }
+    fn select(&mut self, w: &Numbers) -> u64 {
+        nt7508_controller_select(&mut self.block, w[1] != 0)
+    }
+
+    fn command_data(&mut self, w: &Numbers) -> u64 {
+        nt7508_controller_command_data(&mut self.block, w[1] != 0)
+    }
+
+    fn set_supply(&mut self, w: &Numbers) -> u64 {
+        nt7508_controller_set_supply(&mut self.block, (w[1] % 65536) as u16, moment_of(w))
+    }
+
+    fn set_temperature(&mut self, w: &Numbers) -> u64 {
+        nt7508_controller_set_temperature(&mut self.block, ffi::temperature_of(w[1]))
+    }
+
+    fn at_deadline(&mut self, w: &Numbers) -> u64 {
+        nt7508_controller_at_deadline(&mut self.block, moment_of(w))
     }
 
     fn lose_volatile(&mut self) -> u64 {
         nt7508_controller_lose_volatile(&mut self.block, &mut self.ram, &mut self.icons)
     }
 
-    fn restore(&mut self, w: &[u64; 108]) -> u64 {
+    fn restore(&mut self, w: &Numbers) -> u64 {
         let memory = Memory {
             ram: &self.ram,
             icons: &self.icons,
@@ -138,13 +192,13 @@ impl Machine {
         nt7508_controller_restore(&mut self.block, moment_of(w), memory)
     }
 
-    fn update(&mut self, w: &[u64; 108]) -> Given {
+    fn update(&mut self, w: &Numbers) -> Given {
         let mut pieces = 0;
         let number = nt7508_controller_update(&mut self.block, moment_of(w), &mut pieces);
         gives(number, &[u64::from(pieces)])
     }
 
-    fn drive(&self, w: &[u64; 108]) -> Given {
+    fn drive(&self, w: &Numbers) -> Given {
         let mut out = [0u64; 12];
         let mut frame: u16 = 0;
         let number = nt7508_controller_drive(
@@ -164,7 +218,7 @@ impl Machine {
     }
 
     fn render(&self) -> Given {
-        let mut image = [0u8; 6144];
+        let mut image = [0u8; IMAGE_BYTES];
         let number = nt7508_controller_render(&self.block, self.memory(), &mut image);
         if number != 0 {
             return refused(number);
@@ -181,7 +235,7 @@ impl Machine {
         gives(number, &out)
     }
 
-    fn edges(&self, w: &[u64; 108]) -> Given {
+    fn edges(&self, w: &Numbers) -> Given {
         let mut out = 0;
         let number = nt7508_controller_serial_effect_edges(&self.block, w[1] != 0, &mut out);
         gives(number, &[u64::from(out)])
@@ -194,7 +248,7 @@ impl Machine {
     }
 
     // Which pair it is, is open.
-    fn found(&self, w: &[u64; 108]) -> Given {
+    fn found(&self, w: &Numbers) -> Given {
         let mut out = [0u64; 3];
         let number = nt7508_controller_find_setting(
             &self.block,
@@ -205,32 +259,34 @@ impl Machine {
         gives(number, &[out[0]])
     }
 
-    // Calls are numbers in the list, and are named above.
-    fn called(&mut self, w: &[u64; 108]) -> Given {
-        match w[0] {
-            0 => self.rising(w),
-            1 => self.shift_in(w),
-            2..=5 | 7 => refused(self.changed(w)),
-            6 => refused(self.lose_volatile()),
-            8 => self.update(w),
-            9 => refused(self.restore(w)),
-            10 => self.drive(w),
-            11 => self.render(),
-            12 => self.voltages(),
-            13 => self.edges(w),
-            14 => self.deadline(),
-            _ => self.found(w),
+    fn called(&mut self, w: &Numbers) -> Given {
+        match Call::from(w[0]) {
+            Call::Rising => self.rising(w),
+            Call::ShiftIn => self.shift_in(w),
+            Call::Select => refused(self.select(w)),
+            Call::CommandData => refused(self.command_data(w)),
+            Call::SetSupply => refused(self.set_supply(w)),
+            Call::SetTemperature => refused(self.set_temperature(w)),
+            Call::LoseVolatile => refused(self.lose_volatile()),
+            Call::AtDeadline => refused(self.at_deadline(w)),
+            Call::Update => self.update(w),
+            Call::Restore => refused(self.restore(w)),
+            Call::Drive => self.drive(w),
+            Call::Render => self.render(),
+            Call::Voltages => self.voltages(),
+            Call::SerialEffectEdges => self.edges(w),
+            Call::Deadline => self.deadline(),
+            Call::FindSetting => self.found(w),
         }
     }
 
     // The state and the memory in which a list starts.
-    fn begin(&mut self, w: &[u64; 108]) {
+    fn begin(&mut self, w: &Numbers) {
         self.block.copy_from_slice(&w[..75]);
-        fill(w[75], w[76], &mut self.ram);
-        fill(w[75], w[76] % 251 + 1, &mut self.icons);
+        fill_memory(w[75], w[76], &mut self.ram, &mut self.icons);
     }
 
-    fn call_agrees(&mut self, w: &[u64; 108]) -> bool {
+    fn call_agrees(&mut self, w: &Numbers) -> bool {
         let given = Given {
             number: w[5],
             sum: w[6],
@@ -238,15 +294,20 @@ impl Machine {
         (self.called(w) == given) & self.has_sums([w[7], w[8], w[9]])
     }
 
-    // Whether ours answers as a line of a kind says. Kinds are numbers in the list, and are named above.
-    fn agrees(&mut self, kind: u64, w: &[u64; 108]) -> bool {
+    // Whether ours answers as a line of a kind says. The other kinds are those that `layer_cases` replays.
+    fn agrees(&mut self, kind: Kind, w: &Numbers) -> bool {
         match kind {
-            7 => {
+            Kind::Start => {
                 self.begin(w);
                 true
             }
-            8 => self.call_agrees(w),
-            _ => false,
+            Kind::Call => self.call_agrees(w),
+            Kind::Micros
+            | Kind::NewClock
+            | Kind::Edges
+            | Kind::MovedClock
+            | Kind::Voltages
+            | Kind::Scan => false,
         }
     }
 }
@@ -257,8 +318,9 @@ impl Cases for Machine {
 
     ghost gives = { λ machine list answer left. ⊤ };
 
+    // Here and in `layer_cases`: main.rt there says why.
     fn replay<'a>(&mut self, list: &'a [u8]) -> Option<Replayed<'a>> {
-        let mut w = [0u64; 108];
+        let mut w: Numbers = [0; _];
         let case = replay::read_case(list, &mut w)?;
         Some(Replayed {
             rest: case.rest,

@@ -5,11 +5,12 @@
 use crate::controller_cases::Machine;
 use ffi::session_words::nt7508_session;
 use replay::{Cases, Replayed};
+use session::ROOM;
 
 // Room for a listing. A function of its own, so that its length is known from its type: where the array was made in
 // `agrees`, the check of that function did not end.
-fn room() -> [u8; 589824] {
-    [0; 589824]
+fn room() -> [u8; ROOM] {
+    [0; ROOM]
 }
 
 // Runs a text on lent memory, and answers whether it goes as the numbers and the listing say.
@@ -44,6 +45,7 @@ impl Cases for Sessions {
     fn replay<'a>(&mut self, list: &'a [u8]) -> Option<Replayed<'a>> {
         let mut w = [0u64; 7];
         let texts = decimal::read_line(list, &mut w)?;
+        // `as`, since std has no `From<u64>` for usize; both have 64 bits.
         let (text, listings) = texts.split_at_checked(w[0] as usize)?;
         let (listing, rest) = listings.split_at_checked(w[1] as usize)?;
         Some(Replayed {

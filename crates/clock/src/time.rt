@@ -81,6 +81,17 @@ impl From<Wide> for Time {
     }
 }
 
+impl From<Wide> for Duration {
+    ghost from_gives = { λ w d. d ≡ record { seconds = w.high; fraction = w.low } };
+
+    fn from(w: Wide) -> Duration {
+        Duration {
+            seconds: w.high,
+            fraction: w.low,
+        }
+    }
+}
+
 impl From<Time> for Wide {
     ghost from_gives = { λ t w. w ≡ record { high = t.seconds; low = t.fraction } };
 
@@ -122,10 +133,6 @@ impl Duration {
     pub fn from_micros(us: u64) -> Self
         ensures { result ≡ duration_of (micros_raw us) }
     {
-        let w = micros_raw(us);
-        Self {
-            seconds: w.high,
-            fraction: w.low,
-        }
+        Self::from(micros_raw(us))
     }
 }

@@ -276,7 +276,10 @@ pub group_bounds : (bits count : ℕ) → group_ok bits count ≡ true → (coun
 unfolding group_ok
 group_bounds bits count h = let p = both _ _ h in (leb-true count 8 p.0, ltb-true bits (2 ^ count) p.1)
 
-cut_ok : (bits m n : ℕ) → group_ok bits (m + n) ≡ true → (group_ok (bits / 2 ^ n) m ≡ true) × (group_ok (bits % 2 ^ n) n ≡ true)
+pub group_count : (bits count : ℕ) → group_ok bits count ≡ true → count ≤ 8
+group_count bits count h = (group_bounds bits count h).0
+
+pub cut_ok : (bits m n : ℕ) → group_ok bits (m + n) ≡ true → (group_ok (bits / 2 ^ n) m ≡ true) × (group_ok (bits % 2 ^ n) n ≡ true)
 unfolding group_ok
 cut_ok bits m n h =
     let p = group_bounds bits (m + n) h in (

@@ -39,7 +39,7 @@ use Rattle.controller.specs.Closed.{check_registers, check_but_scan, registers_o
 use Rattle.controller.proofs.Checks.{Valid, valid, called, grouped, first_none, first_first, lent_chain}
 use Rattle.controller.proofs.PowerOn.{power_on_valid}
 use Rattle.controller.proofs.Bytes.{updated_unread, step_valid}
-use Rattle.controller.proofs.Groups.{grown_by, whole_byte, byte_bits, edges_over, group_bounds, group_passed}
+use Rattle.controller.proofs.Groups.{grown_by, whole_byte, byte_bits, edges_over, group_bounds, cut_ok, group_passed}
 use Rattle.controller.proofs.Parts.{command_taken, step_is, scan_before, scan_after, step_scan, step_data, step_stores, byte_parts}
 
 -- ---- the registers that the scan reads
@@ -205,6 +205,15 @@ pub rest_below : (x : Nt7508) (bits count : ℕ) (now : Time) (ram icons : List 
 rest_below x bits count now ram icons h =
     let g = registers_passed x bits count now ram icons h in
     omega (arith, bits_under x g.registers_ok_lem, (group_bounds bits count g.group_ok_lem).0)
+
+-- both parts of such a group are groups: what completes the byte, and what is left
+pub group_parts : (x : Nt7508) (bits count : ℕ) (now : Time) (ram icons : List ℕ) → registers_ok x bits count now ram icons ≡ true → completes x count ≡ true →
+    let rest = count - (8 - x.serial.bits) in
+    (group_ok (bits / 2 ^ rest) (8 - x.serial.bits) ≡ true) × (group_ok (bits % 2 ^ rest) rest ≡ true)
+group_parts x bits count now ram icons h hc =
+    let g = registers_passed x bits count now ram icons h in
+    let c = completed x count hc in
+    cut_ok bits (8 - x.serial.bits) (count - (8 - x.serial.bits)) (ap (group_ok bits) (omega (arith, c.1)) ∙ g.group_ok_lem)
 
 -- a group that is turned down
 pub group_refused : (x : Nt7508) (bits count : ℕ) (now : Time) (ram icons : List ℕ) (why : Refusal) → check_group x bits count now ram icons ≡ Some (number why) → taken x (Err why) ram icons ≡ shift_in x bits count now ram icons

@@ -1,16 +1,13 @@
 // Bits clocked in: one rising edge of the serial clock, and a group of them. `take` checks, takes the
 // bits and says what is to be stored; `rising` and `shift_in` store it in lent memory.
-// The bits of a group and their count stay two arguments, as C hands them: all that holds of both is `group_ok`,
-// which one contract asks for.
 ghost use Rattle.std.specs.Prelude.{◌≡◌, true, false, ◌+◌, ◌*◌, ◌%◌, ◌^◌, ◌≤◌, ◌<◌};
-ghost use Rattle.controller.specs.Check.{group_ok};
 ghost use Rattle.controller.specs.Event.{ram_after, icons_after};
 ghost use Rattle.controller.specs.Bits.{taking as taking_of, with_bits, received, taken, rising as rising_of, shift_in};
 ghost use Rattle.controller.specs.State.{with_serial};
 ghost use Rattle.controller.specs.Closed.{registers_ok, completes as completes_of, Short};
 
 use crate::byte::byte;
-use crate::check::{Refusal, check_group, registers_ok};
+use crate::check::{Group, Refusal, check_group, registers_ok};
 use crate::event::{Event, Stepped, Store, unstored};
 use crate::state::Nt7508;
 use checks::Checked;
@@ -42,24 +39,24 @@ fn with_bits(state: Nt7508, shift: u8, bits: u8) -> Nt7508
     next
 }
 
-// A number with `count` bits more below it; eight bits remain.
-fn joined(shift: u8, bits: u8, count: u8) -> u8
-    requires { count ≤ 8 }
-    ensures { result ≡ (shift * 2 ^ count + bits) % 256 }
+// A number with the bits of a group below it; eight bits remain.
+#[tactic(auto, using(crate::proofs::Groups::group_count))]
+fn joined(shift: u8, group: Group) -> u8
+    ensures { result ≡ (shift * 2 ^ group.count + group.bits) % 256 }
 {
-    let high = u32::from(shift) << count;
-    ((high + u32::from(bits)) % 256) as u8
+    let high = u32::from(shift) << group.count;
+    ((high + u32::from(group.bits)) % 256) as u8
 }
 
 // Bits that are taken and complete no byte.
-fn grown(state: Nt7508, bits: u8, count: u8) -> Nt7508
-    requires { state.serial.bits + count < 8 }
-    ensures { result ≡ with_serial state (with_bits state.serial ((state.serial.shift * 2 ^ count + bits) % 256) (state.serial.bits + count)) }
+fn grown(state: Nt7508, group: Group) -> Nt7508
+    requires { state.serial.bits + group.count < 8 }
+    ensures { result ≡ with_serial state (with_bits state.serial ((state.serial.shift * 2 ^ group.count + group.bits) % 256) (state.serial.bits + group.count)) }
 {
     with_bits(
         state,
-        joined(state.serial.shift, bits, count),
-        state.serial.bits + count,
+        joined(state.serial.shift, group),
+        state.serial.bits + group.count,
     )
 }
 
@@ -72,37 +69,38 @@ pub(crate) fn completes(state: Nt7508, count: u8) -> bool
 }
 
 // A group that completes no byte.
-fn short(state: Nt7508, bits: u8, count: u8) -> Nt7508
-    requires count_value { completes_of state count ≡ false }
-    requires count_value_2 { group_ok bits count ≡ true }
-    ensures { Short state bits count result }
+fn short(state: Nt7508, group: Group) -> Nt7508
+    requires { completes_of state group.count ≡ false }
+    ensures { Short state group.bits group.count result }
 {
     if !taking(state) {
         return state;
     }
-    grown(state, bits, count)
+    grown(state, group)
 }
 
 // A group that completes a byte. Its checks have been made, but for the scan's. Not inline: it has large locals,
 // which an edge that completes no byte would pay for too.
 #[inline(never)]
-fn whole(
-    state: Nt7508,
-    bits: u8,
-    count: u8,
-    moment: Time,
-    memory: Memory<'_>,
-) -> Result<Stepped, Refusal>
-    requires registers { registers_ok state bits count moment memory.ram.now memory.icons.now ≡ true }
-    requires count_value { completes_of state count ≡ true }
-    ensures { taken state result memory.entry.ram.now memory.entry.icons.now ≡ shift_in state bits count moment memory.entry.ram.now memory.entry.icons.now }
+fn whole(state: Nt7508, group: Group, moment: Time, memory: Memory<'_>) -> Result<Stepped, Refusal>
+    requires registers { registers_ok state group.bits group.count moment memory.ram.now memory.icons.now ≡ true }
+    requires count_value { completes_of state group.count ≡ true }
+    ensures { taken state result memory.entry.ram.now memory.entry.icons.now ≡ shift_in state group.bits group.count moment memory.entry.ram.now memory.entry.icons.now }
 {
     let needed = 8 - state.serial.bits;
-    let rest = count - needed;
-    let value = joined(state.serial.shift, bits >> rest, needed);
+    let rest = group.count - needed;
+    let first = Group {
+        bits: group.bits >> rest,
+        count: needed,
+    };
+    let value = joined(state.serial.shift, first);
     let taken = Checked { value: moment };
     let mut stepped = byte(with_bits(state, 0, 0), value, taken, memory)?;
-    stepped.state = grown(stepped.state, bits % (1 << rest), rest);
+    let last = Group {
+        bits: group.bits % (1 << rest),
+        count: rest,
+    };
+    stepped.state = grown(stepped.state, last);
     Ok(stepped)
 }
 
@@ -140,10 +138,10 @@ impl Nt7508 {
         ensures { taken self result memory.entry.ram.now memory.entry.icons.now ≡ shift_in self bits count moment memory.entry.ram.now memory.entry.icons.now }
     {
         if registers_ok(self, bits, count, moment, memory) & completes(self, count) {
-            return whole(self, bits, count, moment, memory);
+            return whole(self, Group { bits, count }, moment, memory);
         }
-        check_group(self, bits, count, moment, memory)?;
-        Ok(unstored(short(self, bits, count)))
+        let group = check_group(self, bits, count, moment, memory)?;
+        Ok(unstored(short(self, group)))
     }
 
     // `count` rising edges of the serial clock at once, the oldest the highest of `bits`.

@@ -12,7 +12,7 @@ ghost use Rattle.controller.specs.Closed.{display_then, power_then, running_by};
 use crate::check::{Refusal, awaits};
 use crate::command::{command, display_after, display_with, power_after};
 use crate::event::{Event, Stepped, Store};
-use crate::state::{Address, Nt7508, Power, Serial, with_scan};
+use crate::state::{Address, ICON_PAGE, Nt7508, Power, Serial, with_scan};
 use checks::Checked;
 use clock::Time;
 use scan::{Conditions, Memory, Running, Scan};
@@ -44,12 +44,13 @@ pub(crate) fn next_column(address: Address) -> Address
     }
 }
 
+// The byte that a data byte sets. RAM has 16 pages of 256 bytes, and the icons one.
 #[tactic(auto, unfolding(crate::specs::Byte::store_of))]
 pub(crate) fn store_of(address: Address, byte: u8) -> Store
     ensures { result ≡ store_of address byte }
 {
     let column = usize::from(address.column_byte % 256);
-    if address.page == 16 {
+    if address.page == ICON_PAGE {
         return Store::Icon {
             at: column,
             value: byte % 2,

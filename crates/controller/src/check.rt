@@ -1,11 +1,15 @@
 // The checks of the controller and the table's order: document 01, 'Where a call is turned down'.
-ghost use Rattle.std.specs.Prelude.{◌≡◌};
+// State, moment and memory stay three parameters, here and in the calls: some calls take a moment and no memory, some
+// memory and no moment, some neither, and along a byte the state alone changes.
+ghost use Rattle.std.specs.Prelude.{◌≡◌, true, IfOk};
+ghost use Rattle.std.proofs.Props.{props};
+ghost use Rattle.checks.specs.Checks.{refused_by};
 ghost use Rattle.scan.specs.Check.{by_clock};
 ghost use Rattle.controller.specs.Closed.{check_registers, check_but_scan, registers_ok};
 ghost use Rattle.controller.specs.Check.{number as number_of, of_scan, refused, awaits as awaits_of, valid_pending, valid_serial, valid_saved, valid_address, supplied_at, valid_power, valid_state, check_state, clock_not_later, ready_not_earlier, restore_ok, group_ok, check_moment, check_memory, check_lent, check_group, check_image, check_restore};
 ghost use Rattle.controller.specs.declared.check.Refusal.TheVariants.{State};
 
-use crate::state::{Address, Nt7508, Power, Serial};
+use crate::state::{Address, ICON_PAGE, Nt7508, Power, Serial};
 use checks::{Check, Numbered};
 use clock::{Clock, Time};
 use scan::{Memory, Scan, image_ok};
@@ -109,10 +113,10 @@ fn valid_saved(saved: Option<u16>) -> bool
 fn valid_address(address: Address) -> bool
     ensures { result ≡ valid_address address }
 {
-    (address.page <= 16) & (address.column_byte < 256) & valid_saved(address.saved_column)
+    (address.page <= ICON_PAGE) & (address.column_byte < 256) & valid_saved(address.saved_column)
 }
 
-// Whether a supply counts as one.
+// Whether a supply counts as one. The scan grounds its electrodes from as many millivolts on, by a rule of its own.
 pub(crate) fn supplied_at(millivolts: u16) -> bool
     ensures { result ≡ supplied_at millivolts }
 {
@@ -158,7 +162,9 @@ impl Check for Nt7508 {
     }
 }
 
-// The checks of a call that takes a moment.
+// The checks of a call that takes a moment. Not inline: with two refusals in sight the compiler copies the answer of
+// such a call once more.
+#[inline(never)]
 #[tactic(auto, using(crate::proofs::Checks::first_none), unfolding(crate::specs::Check::check_moment, crate::specs::Check::in_order))]
 pub(crate) fn check_moment(state: Nt7508, now: Time) -> Result<(), Refusal>
     ensures { refused result ≡ check_moment state now }
@@ -178,8 +184,8 @@ pub(crate) fn check_memory(state: Nt7508, memory: Memory<'_>) -> Result<(), Refu
 
 // The checks of a call that takes a moment, but for the scan's: numbers 1 and 3.
 #[tactic(auto, unfolding(crate::specs::Closed::check_registers))]
-pub(crate) fn check_registers(state: Nt7508, now: Time) -> Result<(), Refusal>
-    ensures { refused result ≡ check_registers state now }
+pub(crate) fn check_registers(state: &Nt7508, now: Time) -> Result<(), Refusal>
+    ensures { refused result ≡ check_registers state.now now }
 {
     now.check()?;
     if !state.valid() {
@@ -190,8 +196,12 @@ pub(crate) fn check_registers(state: Nt7508, now: Time) -> Result<(), Refusal>
 
 // The checks of a call that takes both, but for the scan's: numbers 2, 1 and 3.
 #[tactic(auto, unfolding(crate::specs::Closed::check_registers, crate::specs::Closed::check_but_scan))]
-pub(crate) fn check_but_scan(state: Nt7508, moment: Time, memory: Memory<'_>) -> Result<(), Refusal>
-    ensures { refused result ≡ check_but_scan state moment memory.entry.ram.now memory.entry.icons.now }
+pub(crate) fn check_but_scan(
+    state: &Nt7508,
+    moment: Time,
+    memory: Memory<'_>,
+) -> Result<(), Refusal>
+    ensures { refused result ≡ check_but_scan state.now moment memory.entry.ram.now memory.entry.icons.now }
 {
     memory.check()?;
     check_registers(state, moment)
@@ -199,12 +209,20 @@ pub(crate) fn check_but_scan(state: Nt7508, moment: Time, memory: Memory<'_>) ->
 
 // The checks of a call that takes both.
 #[tactic(auto, using(crate::proofs::Checks::first_none), unfolding(crate::specs::Check::check_lent, crate::specs::Closed::check_but_scan, crate::specs::Check::in_order, crate::specs::Check::check_state))]
-fn check_lent(state: Nt7508, moment: Time, memory: Memory<'_>) -> Result<(), Refusal>
-    ensures { refused result ≡ check_lent state moment memory.entry.ram.now memory.entry.icons.now }
+fn check_lent(state: &Nt7508, moment: Time, memory: Memory<'_>) -> Result<(), Refusal>
+    ensures { refused result ≡ check_lent state.now moment memory.entry.ram.now memory.entry.icons.now }
 {
     check_but_scan(state, moment, memory)?;
     state.scan.check()?;
     Ok(())
+}
+
+// A group of bits that passed number 7. The public calls take its two numbers apart, as C hands them.
+#[derive(Clone, Copy)]
+pub(crate) struct Group {
+    pub(crate) bits: u8,
+    pub(crate) count: u8,
+    pub ghost fits: { group_ok bits count ≡ true } by { Prim.hlevel props },
 }
 
 // Number 7: a count up to 8, and no bit set at or above it.
@@ -217,7 +235,8 @@ fn group_ok(bits: u8, count: u8) -> bool
     u16::from(bits) < 1 << count
 }
 
-// The rows of a group of bits but for the scan's: numbers 2, 1, 3 and 7. Inline, as the state's check is.
+// The rows of a group of bits but for the scan's: numbers 2, 1, 3 and 7. Inline, as the state's check is. Not
+// `check_but_scan(..).is_ok()`: a byte of the fast path takes 81 ns so, 116 by it, and 89 by it put inline.
 #[inline(always)]
 #[tactic(auto, unfolding(crate::specs::Closed::registers_ok))]
 pub(crate) fn registers_ok(
@@ -232,7 +251,7 @@ pub(crate) fn registers_ok(
     memory.fits() & moment.in_range() & state.valid() & group_ok(bits, count)
 }
 
-// The checks of a group of bits.
+// The checks of a group of bits, which answer the group.
 #[tactic(auto, using(crate::proofs::Checks::group_chain))]
 pub(crate) fn check_group(
     state: Nt7508,
@@ -240,17 +259,18 @@ pub(crate) fn check_group(
     count: u8,
     moment: Time,
     memory: Memory<'_>,
-) -> Result<(), Refusal>
-    ensures { refused result ≡ check_group state bits count moment memory.entry.ram.now memory.entry.icons.now }
+) -> Result<Group, Refusal>
+    ensures refuses { refused_by number_of result ≡ check_group state bits count moment memory.entry.ram.now memory.entry.icons.now }
+    ensures keeps { IfOk result (λ group. (group.bits ≡ bits) × (group.count ≡ count)) }
 {
-    check_lent(state, moment, memory)?;
+    check_lent(&state, moment, memory)?;
     if !group_ok(bits, count) {
         return Err(Refusal::Group);
     }
-    Ok(())
+    Ok(Group { bits, count })
 }
 
-// The checks of an image of so many bytes.
+// The checks of an image of so many bytes. The scan's check of this name is of settings, and this one of a whole state.
 #[tactic(auto, using(crate::proofs::Checks::first_none), unfolding(crate::specs::Check::check_image, crate::specs::Check::in_order))]
 pub(crate) fn check_image(state: Nt7508, memory: Memory<'_>, bytes: usize) -> Result<(), Refusal>
     ensures { refused result ≡ check_image state memory.entry.ram.now memory.entry.icons.now bytes }
@@ -284,10 +304,11 @@ fn restore_ok(scan: Scan, ready: Option<Time>, now: Time) -> bool
     clock_not_later(scan.ticking.clock, now) & ready_not_earlier(ready, now)
 }
 
-// The checks of a state that is restored.
+// The checks of a state that is restored. Not inline: a state whose fields are read where it is copied is copied in parts.
+#[inline(never)]
 #[tactic(auto, using(crate::proofs::Checks::first_none), unfolding(crate::specs::Check::check_restore, crate::specs::Check::check_lent, crate::specs::Check::in_order))]
-pub(crate) fn check_restore(state: Nt7508, now: Time, memory: Memory<'_>) -> Result<(), Refusal>
-    ensures { refused result ≡ check_restore state now memory.entry.ram.now memory.entry.icons.now }
+pub(crate) fn check_restore(state: &Nt7508, now: Time, memory: Memory<'_>) -> Result<(), Refusal>
+    ensures { refused result ≡ check_restore state.now now memory.entry.ram.now memory.entry.icons.now }
 {
     check_lent(state, now, memory)?;
     if !restore_ok(state.scan, state.power.ready, now) {

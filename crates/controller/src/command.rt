@@ -7,7 +7,7 @@ ghost use Rattle.controller.specs.State.{with_serial};
 
 use crate::check::awaits;
 use crate::event::{Event, Stepped, unstored};
-use crate::state::{Address, Nt7508, PALETTE, Power};
+use crate::state::{Address, ICON_PAGE, Nt7508, PALETTE, Power};
 use clock::Time;
 
 // Sets registers of every group again.
@@ -102,7 +102,7 @@ pub(crate) fn address_after(address: Address, byte: u8) -> Address
         0x10..=0x17 => {
             next.column_byte = (u16::from(byte % 8) * 16 + address.column_byte / 2 % 16) * 2;
         }
-        0xa3 => next.page = 16,
+        0xa3 => next.page = ICON_PAGE,
         0xb0..=0xbf => next.page = byte % 16,
         0xe0 => next.saved_column = Some(address.column_byte),
         RESET => {
@@ -116,7 +116,8 @@ pub(crate) fn address_after(address: Address, byte: u8) -> Address
     next
 }
 
-// The parameters that set a duty; another leaves it.
+// The parameters that set a duty; another leaves it. The scan tests its duty among all of its settings, and has no test
+// of a duty by itself.
 fn is_duty(byte: u8) -> bool
     ensures { result ≡ between 16 128 byte }
 {

@@ -5,7 +5,8 @@ ghost use Rattle.controller.specs.Event.{unstored as unstored_of};
 use crate::state::Nt7508;
 use clock::Time;
 
-// A data byte with its page and column as they were, or a command with the parameter that it awaited.
+// A data byte with its page and column as they were, or a command with the parameter that it awaited. Each case has its
+// moment among its fields: a struct of a moment and a kind would be two types, which a listener takes apart both.
 #[derive(Clone, Copy, Debug, PartialEq, Eq)]
 pub enum Event {
     Write {

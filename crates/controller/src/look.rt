@@ -43,7 +43,7 @@ impl Nt7508 {
     pub fn drive(self, moment: Time, memory: Memory<'_>) -> Result<Driven, Refusal>
         ensures { answered_drive result ≡ drive_of self moment memory.entry.ram.now memory.entry.icons.now }
     {
-        check_but_scan(self, moment, memory)?;
+        check_but_scan(&self, moment, memory)?;
         // The scan's own call checks the scan.
         let driven = scan::drive::drive(
             self.scan,
@@ -84,7 +84,8 @@ impl Nt7508 {
         Ok(self.power.ready)
     }
 
-    // Some regulator and contrast whose target lies in a band, both ends in.
+    // Some regulator and contrast whose target lies in a band, both ends in. The ends stay two numbers, as C hands
+    // them: no call but voltage's finder, which takes them so too, reads them.
     pub fn find_setting(self, low: u32, high: u32) -> Result<Option<Pair>, Refusal>
         ensures { SaysOf self low high result }
     {
@@ -99,7 +100,7 @@ impl Nt7508 {
     pub fn restore(self, moment: Time, memory: Memory<'_>) -> Result<Self, Refusal>
         ensures { answered self result ≡ restore_of self moment memory.entry.ram.now memory.entry.icons.now }
     {
-        check_restore(self, moment, memory)?;
+        check_restore(&self, moment, memory)?;
         Ok(self)
     }
 }

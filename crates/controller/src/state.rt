@@ -9,6 +9,9 @@ use scan::Scan;
 // The palette at power-on and after a reset.
 pub(crate) const PALETTE: [u8; 8] = [0, 0, 0, 0, 255, 255, 255, 255];
 
+// The page whose bytes are the icons; those below it are RAM's.
+pub(crate) const ICON_PAGE: u8 = 16;
+
 // The serial line: whether it is selected and carries data, the bits of the byte under way, and a
 // command byte that awaits its parameter.
 #[derive(Clone, Copy, Debug, PartialEq, Eq)]
@@ -20,7 +23,7 @@ pub struct Serial {
     pub pending: Option<u8>,
 }
 
-// Where the next data byte goes, and a column that was put aside. Page 16 is that of the icons.
+// Where the next data byte goes, and a column that was put aside.
 #[derive(Clone, Copy, Debug, PartialEq, Eq)]
 pub struct Address {
     pub page: u8,

@@ -2,11 +2,11 @@
 ghost use Rattle.std.specs.Prelude.{◌≡◌, ◌+◌, true, None};
 ghost use Rattle.clock.specs.Time.{raw, time_of, micros_raw};
 ghost use Rattle.controller.specs.Check.{answered};
-ghost use Rattle.controller.specs.Supply.{selected_as, fallen as fallen_of, chilled as chilled_of, cold_risen, warm_risen, risen as risen_of, switched as switched_of, railed as railed_of, deadline_met, select as select_of, command_data, set_temperature, set_supply, at_deadline, lost_by, lose_volatile};
+ghost use Rattle.controller.specs.Supply.{selected_as, fallen as fallen_of, chilled as chilled_of, cold_risen, warm_risen, risen as risen_of, switched as switched_of, railed as railed_of, select as select_of, command_data, set_temperature, set_supply, at_deadline, lost_by, lose_volatile};
 
 use crate::byte::conditions_of;
 use crate::check::{Refusal, check_memory, check_moment, supplied_at};
-use crate::state::{Nt7508, Power, Serial, with_scan};
+use crate::state::{Nt7508, Serial, with_scan};
 use checks::{Check, Checked};
 use clock::{Duration, Time};
 use scan::Memory;
@@ -115,19 +115,6 @@ fn railed(state: Checked<Nt7508>, millivolts: u16, now: Checked<Time>) -> Nt7508
     next
 }
 
-// Only a deadline call at the exact time ends the wait, and only then is cold cleared.
-#[tactic(auto, unfolding(crate::specs::Supply::deadline_met))]
-fn deadline_met(power: Power, now: Time) -> Power
-    ensures { result ≡ deadline_met power power.ready now }
-{
-    let mut next = power;
-    if power.ready == Some(now) {
-        next.cold = false;
-        next.ready = None;
-    }
-    next
-}
-
 impl Nt7508 {
     // The supply in millivolts.
     #[tactic(auto, unfolding(crate::specs::Supply::set_supply))]
@@ -139,15 +126,18 @@ impl Nt7508 {
     }
 
     // The deadline call, which ends the wait at its exact time.
-    #[tactic(auto, unfolding(crate::specs::Supply::at_deadline, crate::specs::State::with_power))]
+    #[tactic(auto, unfolding(crate::specs::Supply::at_deadline, crate::specs::Supply::deadline_met, crate::specs::State::with_power))]
     pub fn at_deadline(self, now: Time) -> Result<Self, Refusal>
         ensures { answered self result ≡ at_deadline self now }
     {
         check_moment(self, now)?;
-        Ok(Self {
-            power: deadline_met(self.power, now),
-            ..self
-        })
+        let mut next = self;
+        // Only a call at the exact time ends the wait, and only then is cold cleared.
+        if self.power.ready == Some(now) {
+            next.power.cold = false;
+            next.power.ready = None;
+        }
+        Ok(next)
     }
 
     #[tactic(auto, unfolding(crate::specs::Supply::select, crate::specs::State::with_serial))]
@@ -155,10 +145,9 @@ impl Nt7508 {
         ensures { answered self result ≡ select_of self on }
     {
         self.check()?;
-        Ok(Self {
-            serial: selected_as(self.serial, on),
-            ..self
-        })
+        let mut next = self;
+        next.serial = selected_as(self.serial, on);
+        Ok(next)
     }
 
     // The data line: data, or commands.

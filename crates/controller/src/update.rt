@@ -6,7 +6,8 @@ use crate::check::{Refusal, check_registers};
 use crate::state::{Nt7508, with_scan};
 use clock::Time;
 
-// The state with its scan counted to the moment, and how many pieces that took.
+// The state with its scan counted to the moment, and how many pieces that took. The scan's `Counted` is the same of a
+// scan: of one generic type callers could no more read `scan` and `state` by these names.
 #[derive(Clone, Copy, Debug, PartialEq, Eq)]
 pub struct Updated {
     pub state: Nt7508,
@@ -18,7 +19,7 @@ impl Nt7508 {
     pub fn update(self, now: Time) -> Result<Updated, Refusal>
         ensures { answered_update self result ≡ update_of self now }
     {
-        check_registers(self, now)?;
+        check_registers(&self, now)?;
         // The scan's own call checks the scan.
         let counted = self.scan.count_to(self.display, now)?;
         Ok(Updated {

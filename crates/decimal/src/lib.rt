@@ -9,7 +9,7 @@ ghost use Rattle.decimal.specs.Rest.{read_view, rest_view, digit_in, decimal_of,
 
 mod print;
 
-pub use print::{put_byte, put_bytes, put_number};
+pub use print::Writer;
 
 // A number that was read, and what follows it.
 #[derive(Clone, Copy, Debug, PartialEq, Eq)]

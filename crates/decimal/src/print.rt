@@ -1,39 +1,55 @@
 // Prints bytes and unsigned decimals into lent bytes. What is behind their end is left out; a place
 // never passes that end.
-//
-// The bytes and the place in them stand side by side. In a struct of both, a clause would speak of
-// `writer.exit.out.now`, and each function that takes it would state besides that it keeps its reference.
 ghost use Rattle.std.specs.Prelude.{◌≡◌};
 ghost use Rattle.decimal.specs.Print.{decimal, put_byte, put};
 
 use itoa::Buffer;
 
-// Puts a byte at a place, and answers the place behind it.
-pub fn put_byte(out: &mut [u8], at: usize, byte: u8) -> usize
-    ensures { (out.new, result) ≡ put_byte (out.old, at) byte }
-{
-    if at < out.len() {
-        out[at] = byte;
-        return at + 1;
-    }
-    at
+// Lent bytes, and the place where the next byte is put. (Each call also says that the bytes are still
+// those that were lent: by that their lender knows what they hold after it.)
+#[derive(Drop)]
+pub struct Writer<'a> {
+    pub out: &'a mut [u8],
+    pub at: usize,
 }
 
-// Puts bytes one behind another.
-pub fn put_bytes(out: &mut [u8], at: usize, bytes: &[u8]) -> usize
-    ensures { (out.new, result) ≡ put (out.old, at) bytes.now }
-{
-    let mut next = at;
-    for &byte in bytes {
-        next = put_byte(out, next, byte);
+impl<'a> Writer<'a> {
+    // Starts at the first byte.
+    pub fn new(out: &'a mut [u8]) -> Writer<'a>
+        ensures same { result.out.ghost_name ≡ out.entry.ghost_name }
+        ensures starts { result.out.now ≡ out.old }
+        ensures at { result.at ≡ 0 }
+    {
+        Writer { out, at: 0 }
     }
-    next
-}
 
-// Puts the digits of a number.
-pub fn put_number(out: &mut [u8], at: usize, n: u64) -> usize
-    ensures { (out.new, result) ≡ put (out.old, at) (decimal n) }
-{
-    let mut digits = Buffer::new();
-    put_bytes(out, at, digits.format(n).as_bytes())
+    // Puts a byte.
+    pub fn put_byte(&mut self, byte: u8)
+        ensures same { self.new.out.ghost_name ≡ self.old.out.ghost_name }
+        ensures puts { (self.new.out.now, self.new.at) ≡ put_byte (self.old.out.now, self.old.at) byte }
+    {
+        if self.at < self.out.len() {
+            self.out[self.at] = byte;
+            self.at += 1;
+        }
+    }
+
+    // Puts bytes one behind another.
+    pub fn put_bytes(&mut self, bytes: &[u8])
+        ensures same { self.new.out.ghost_name ≡ self.old.out.ghost_name }
+        ensures puts { (self.new.out.now, self.new.at) ≡ put (self.old.out.now, self.old.at) bytes.now }
+    {
+        for &byte in bytes {
+            self.put_byte(byte);
+        }
+    }
+
+    // Puts the digits of a number.
+    pub fn put_number(&mut self, n: u64)
+        ensures same { self.new.out.ghost_name ≡ self.old.out.ghost_name }
+        ensures puts { (self.new.out.now, self.new.at) ≡ put (self.old.out.now, self.old.at) (decimal n) }
+    {
+        let mut digits = Buffer::new();
+        self.put_bytes(digits.format(n).as_bytes());
+    }
 }

@@ -1,5 +1,6 @@
 -- Times, rates and clocks as words.
-use Rattle.std.specs.Prelude.{ℕ, List, [], ◌∷◌, get_or, Option, Some, None}
+use Rattle.std.specs.Prelude.{ℕ, List, [], ◌∷◌, get_or, Option}
+use Rattle.ffi.specs.Words.{optional_two}
 use Rattle.clock.specs.declared.time.Time.{Time}
 use Rattle.clock.specs.declared.rate.Rate.{Rate}
 use Rattle.clock.specs.declared.edges.Clock.{Clock}
@@ -15,8 +16,7 @@ time_words t = t.seconds ∷ t.fraction ∷ []
 
 -- the end of a wait: whether there is one, and its time
 abbrev pub deadline_words : Option Time → List ℕ
-deadline_words None = 0 ∷ 0 ∷ 0 ∷ []
-deadline_words (Some t) = 1 ∷ t.seconds ∷ t.fraction ∷ []
+deadline_words = optional_two time_words
 
 -- the clock of eight words
 abbrev pub clock_of : List ℕ → Clock

@@ -8,7 +8,7 @@ use Rattle.voltage.specs.declared.check.Refusal.{Refusal}
 use Rattle.voltage.specs.declared.finder.Pair.{Pair}
 use Rattle.voltage.specs.Check.{number}
 use Rattle.voltage.specs.Finder.{Says}
-use Rattle.ffi.specs.Words.{status, stored}
+use Rattle.ffi.specs.Words.{status, stored, optional_two}
 
 -- the settings of eight bytes
 abbrev pub settings_of : List ℕ → Settings
@@ -47,10 +47,12 @@ voltage_words v =
     ∷ level_word v.v4
     ∷ []
 
+abbrev pub two_words : Pair → List ℕ
+two_words p = p.regulator ∷ p.contrast ∷ []
+
 -- what a finder found: whether there is a pair, then its regulator and contrast
 abbrev pub pair_words : Option Pair → List ℕ
-pair_words None = 0 ∷ 0 ∷ 0 ∷ []
-pair_words (Some p) = 1 ∷ p.regulator ∷ p.contrast ∷ []
+pair_words = optional_two two_words
 
 -- the number and the words of an answer of which the finder's rule holds
 pub record FinderAnswers (s : Settings) (temperature : ℤ) (low high : ℕ) (before : List ℕ) (result : ℕ) (after : List ℕ) : Type 0 where

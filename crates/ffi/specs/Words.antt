@@ -21,3 +21,8 @@ stored words (inr a) before = words a
 abbrev pub optional_words : Option ℕ → List ℕ
 optional_words None = 0 ∷ 0 ∷ []
 optional_words (Some n) = 1 ∷ n ∷ []
+
+-- so of a value of two words
+abbrev pub optional_two : {A : Type 0} → (words : A → List ℕ) → Option A → List ℕ
+optional_two words None = 0 ∷ 0 ∷ 0 ∷ []
+optional_two words (Some a) = 1 ∷ words a

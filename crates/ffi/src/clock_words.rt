@@ -5,7 +5,7 @@ ghost use Rattle.clock.specs.Time.{time_of, micros_raw};
 ghost use Rattle.clock.specs.Check.{check_clock};
 ghost use Rattle.clock.specs.Edges.{new_clock, count_edges, move_clock, pass_edges};
 ghost use Rattle.ffi.specs.Words.{status, check_status, stored};
-ghost use Rattle.ffi.specs.ClockWords.{time_words, deadline_words, clock_of, clock_words, passed_count, passed_words};
+ghost use Rattle.ffi.specs.ClockWords.{time_words, clock_of, clock_words, passed_count, passed_words};
 
 use crate::words::{Words, put, status};
 use checks::Numbered;
@@ -37,20 +37,6 @@ impl Words for Time {
 
     fn words(self) -> [u64; 2] {
         [self.seconds, self.fraction]
-    }
-}
-
-// The end of a wait: whether there is one, its seconds and fraction.
-impl Words for Option<Time> {
-    type Words = [u64; 3];
-
-    ghost words = { deadline_words };
-
-    fn words(self) -> [u64; 3] {
-        match self {
-            None => [0; 3],
-            Some(end) => [1, end.seconds, end.fraction],
-        }
     }
 }
 
@@ -111,7 +97,8 @@ pub fn nt7508_clock_moved(clock: &mut [u64; 8], rate: Rate, edges: u64) -> u64
     put(clock_of(clock).moved(rate, edges), clock)
 }
 
-// The clock moved to its last edge not later than a moment, by limit edges at the most, in place.
+// The clock moved to its last edge not later than a moment, by limit edges at the most, in place. Not by `put`, since the C
+// interface lends a number beside the clock.
 pub fn nt7508_clock_passed_to(
     clock: &mut [u64; 8],
     rate: Rate,

@@ -123,7 +123,8 @@ pub fn nt7508_controller_new(state: &mut [u64]) -> u64
 }
 
 // A group that does not take the fast path. A function of its own, since a function clears its locals at its start: here
-// they are large, and cost a byte of the fast path 20 ns.
+// they are large, and cost a byte of the fast path 20 ns. Not by `put`, since the C interface lends an event beside the
+// block.
 fn shifted(
     block: &mut Block,
     bits: u8,
@@ -247,8 +248,8 @@ pub fn nt7508_controller_at_deadline(state: &mut [u64], moment: Time) -> u64
     change(state, |before| before.at_deadline(moment))
 }
 
-// The scan stays as counted to a moment, and how many pieces that took. Not by `change`, since the C interface lends a
-// number beside the block.
+// The scan stays as counted to a moment, and how many pieces that took. Not by `change` or `put`, since the C interface
+// lends a number beside the block.
 pub fn nt7508_controller_update(state: &mut [u64], moment: Time, pieces: &mut u8) -> u64
     ensures answers { result ≡ check_status (updated_on state.old moment).0 }
     ensures leaves { state.new ≡ unless_refused (updated_on state.old moment).0 (state_words (updated_on state.old moment).1.0) state.old }

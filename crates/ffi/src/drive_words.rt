@@ -8,12 +8,15 @@ ghost use Rattle.ffi.specs.DriveWords.{driven_of, driven_by, drive_words, common
 ghost use Rattle.ffi.specs.VoltageWords.{level_word};
 
 use crate::scan_words::{scan_of, settings_of};
-use crate::voltage_words::level_word;
+use crate::voltage_words::{NO_LEVEL, level_word};
 use crate::words::Words;
 use checks::Numbered;
 use clock::Time;
 use scan::{Conditions, Driven, LcdDrive, Memory};
 use voltage::LcdVoltages;
+
+// The word of no common: the commons are 0 to 128.
+pub const NO_COMMON: u64 = 129;
 
 impl Words for LcdDrive {
     type Words = [u64; 12];
@@ -23,7 +26,7 @@ impl Words for LcdDrive {
     fn words(self) -> [u64; 12] {
         let v = self.voltages.words();
         [
-            self.common.map_or(129, u64::from),
+            self.common.map_or(NO_COMMON, u64::from),
             self.segments[0],
             self.segments[1],
             u64::from(self.inverted),
@@ -63,13 +66,13 @@ pub(crate) fn put_drive<R: Numbered>(
 fn common_of(word: u64) -> Option<u8>
     ensures { result ≡ common_of word }
 {
-    (word < 129).then_some((word % 256) as u8)
+    (word < NO_COMMON).then_some((word % 256) as u8)
 }
 
 fn level_of(word: u64) -> Option<u32>
     ensures { result ≡ level_of word }
 {
-    (word < 0x1_0000_0000).then_some((word % 0x1_0000_0000) as u32)
+    (word < NO_LEVEL).then_some((word % 0x1_0000_0000) as u32)
 }
 
 fn drive_of(w: &[u64; 12]) -> LcdDrive

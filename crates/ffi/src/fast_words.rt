@@ -31,14 +31,7 @@ fn clock_zero(w: &Block) -> bool
     if w[0] != 0 {
         return true;
     }
-    (w[1] == 0)
-        & (w[2] == 0)
-        & (w[3] == 0)
-        & (w[4] == 0)
-        & (w[5] == 0)
-        & (w[6] == 0)
-        & (w[7] == 0)
-        & (w[8] == 0)
+    w[1..9] == [0; 8]
 }
 
 // The controller's answer for the state of a block. Not by `state_of`: that has other callers, so that it would not

@@ -15,4 +15,4 @@ mod state_words;
 pub mod voltage_words;
 mod words;
 
-pub use state_words::temperature_of;
+pub use state_words::{Block, temperature_of};

@@ -150,7 +150,8 @@ fn put_scan(answer: Result<Scan, Refusal>, words: &mut [u64; 13], bytes: &mut [u
     }
 }
 
-// The scan counted to a moment, in place, and how many pieces that took.
+// The scan counted to a moment, in place, and how many pieces that took. Not by `put`, since the C interface lends a number
+// beside the scan's two arrays.
 pub fn nt7508_scan_count_to(
     settings: &[u8; 20],
     words: &mut [u64; 13],

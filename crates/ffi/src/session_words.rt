@@ -10,7 +10,7 @@ use crate::state_words::put_state;
 use checks::Numbered;
 use session::Stop;
 
-// Not by `put`: the words go out with a refusal too.
+// Not by `put`: the words go out with a refusal too. `as`, since std has no `From<usize>` for u64; a length fits.
 fn put_end(written: usize, end: Result<(), Stop>, ended: &mut [u64; 2]) -> u64
     ensures answers { result ≡ refusal_number (refused_at end) }
     ensures leaves { ended.new ≡ written ∷ refusal_line (refused_at end) ∷ [] }

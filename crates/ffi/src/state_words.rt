@@ -25,7 +25,7 @@ use controller::{Address, Nt7508, Power, Serial};
 use scan::{Frame, Inversion, Latch, Scan, Ticking};
 
 // The words of a state.
-pub(crate) type Block = [u64; 75];
+pub type Block = [u64; 75];
 
 // Each word fits its field: a yes or no, a byte, or what is wider. Tests of one kind stand together, for the
 // compiler joins them: some 15 ns, where iterators over tables of places took 55 (tried).

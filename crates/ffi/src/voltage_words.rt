@@ -5,7 +5,7 @@ ghost use Rattle.std.specs.Prelude.{◌≡◌};
 ghost use Rattle.voltage.specs.Check.{valid_settings};
 ghost use Rattle.voltage.specs.Answers.{answer_of};
 ghost use Rattle.ffi.specs.Words.{status, stored};
-ghost use Rattle.ffi.specs.VoltageWords.{settings_of, level_word, voltage_words, pair_words, FinderAnswers};
+ghost use Rattle.ffi.specs.VoltageWords.{settings_of, level_word, voltage_words, two_words, FinderAnswers};
 
 use crate::words::{Words, put};
 use voltage::finder::{Pair, find_setting};
@@ -26,11 +26,14 @@ pub(crate) fn settings_of(bytes: &[u8; 8]) -> Settings
     }
 }
 
-// A level, or that of an electrode: an absent one has a number that no present one has.
+// The word of no level: a level has 32 bits.
+pub(crate) const NO_LEVEL: u64 = 0x1_0000_0000;
+
+// A level, or that of an electrode.
 pub(crate) fn level_word(level: Option<u32>) -> u64
     ensures { result ≡ level_word level }
 {
-    level.map_or(0x1_0000_0000, u64::from)
+    level.map_or(NO_LEVEL, u64::from)
 }
 
 impl Words for LcdVoltages {
@@ -51,17 +54,14 @@ impl Words for LcdVoltages {
     }
 }
 
-// What the finder found: whether there is a pair, its regulator and contrast.
-impl Words for Option<Pair> {
-    type Words = [u64; 3];
+// What the finder found.
+impl Words for Pair {
+    type Words = [u64; 2];
 
-    ghost words = { pair_words };
+    ghost words = { two_words };
 
-    fn words(self) -> [u64; 3] {
-        match self {
-            None => [0; 3],
-            Some(pair) => [1, u64::from(pair.regulator), u64::from(pair.contrast)],
-        }
+    fn words(self) -> [u64; 2] {
+        [u64::from(self.regulator), u64::from(self.contrast)]
     }
 }
 

@@ -1,7 +1,7 @@
 // What the calls of all layers share: the words of a value, and the status of an answer.
 ghost use Rattle.std.specs.Prelude.{◌≡◌, Option};
 ghost use Rattle.checks.specs.Checks.{refused_by, numbered};
-ghost use Rattle.ffi.specs.Words.{status, check_status, stored, optional_words};
+ghost use Rattle.ffi.specs.Words.{status, check_status, stored, optional_words, optional_two};
 
 use checks::Numbered;
 
@@ -42,6 +42,23 @@ pub(crate) fn optional_words(number: Option<u64>) -> [u64; 2]
     match number {
         None => [0; 2],
         Some(n) => [1, n],
+    }
+}
+
+// A value that may not be there: whether it is, and its two words.
+impl<T: Words<Words = [u64; 2]>> Words for Option<T> {
+    type Words = [u64; 3];
+
+    ghost words = { optional_two T.words };
+
+    fn words(self) -> [u64; 3] {
+        match self {
+            None => [0; 3],
+            Some(value) => {
+                let w = value.words();
+                [1, w[0], w[1]]
+            }
+        }
     }
 }
 

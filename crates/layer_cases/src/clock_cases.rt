@@ -8,6 +8,7 @@ use clock::{Clock, Rate, Time};
 use ffi::clock_words::{
     nt7508_clock_edges_to, nt7508_clock_moved, nt7508_clock_new, nt7508_time_from_micros,
 };
+use replay::Numbers;
 use std::io;
 
 fn print_edges(rt: &impl Print, clock: Clock, rate: Rate, now: Time) -> io::Result<()> {
@@ -58,7 +59,7 @@ pub(crate) fn figures(rt: &impl Print) -> io::Result<()> {
     print_advanced(rt, &mut clock, rate, 0x4_0000_0000_0000)
 }
 
-fn rate_of(w: &[u64; 108]) -> Rate {
+fn rate_of(w: &Numbers) -> Rate {
     Rate {
         numerator: w[2],
         denominator: w[3],
@@ -66,7 +67,7 @@ fn rate_of(w: &[u64; 108]) -> Rate {
 }
 
 // The words of the clock that starts as a line says, at.s at.f p q.
-fn new_clock(w: &[u64; 108]) -> Option<[u64; 8]> {
+fn new_clock(w: &Numbers) -> Option<[u64; 8]> {
     let at = Time {
         seconds: w[0],
         fraction: w[1],
@@ -76,26 +77,26 @@ fn new_clock(w: &[u64; 108]) -> Option<[u64; 8]> {
 }
 
 // The words of the clock of a line: at.s at.f p q fraction ordinal. Its period is that of its rate.
-fn clock_of(w: &[u64; 108]) -> Option<[u64; 8]> {
+fn clock_of(w: &Numbers) -> Option<[u64; 8]> {
     let mut clock = new_clock(w)?;
     clock[6..].copy_from_slice(&w[4..6]);
     Some(clock)
 }
 
 // Kind 1: us | seconds fraction
-pub(crate) fn micros_agree(w: &[u64; 108]) -> bool {
+pub(crate) fn micros_agree(w: &Numbers) -> bool {
     let mut time = [0; 2];
     nt7508_time_from_micros(w[0], &mut time);
     time[..] == w[1..3]
 }
 
 // Kind 2: at.s at.f p q | whole.s whole.f remainder denominator fraction ordinal
-pub(crate) fn new_agrees(w: &[u64; 108]) -> bool {
+pub(crate) fn new_agrees(w: &Numbers) -> bool {
     new_clock(w).is_some_and(|clock| (clock[..2] == w[..2]) & (clock[2..] == w[4..10]))
 }
 
 // Kind 3: a clock, now.s now.f | edges up to and including now
-pub(crate) fn edges_agree(w: &[u64; 108]) -> bool {
+pub(crate) fn edges_agree(w: &Numbers) -> bool {
     let now = Time {
         seconds: w[6],
         fraction: w[7],
@@ -108,7 +109,7 @@ pub(crate) fn edges_agree(w: &[u64; 108]) -> bool {
 }
 
 // Kind 4: a clock, edges | at.s at.f fraction ordinal of the clock moved by them
-pub(crate) fn moved_agrees(w: &[u64; 108]) -> bool {
+pub(crate) fn moved_agrees(w: &Numbers) -> bool {
     let Some(before) = clock_of(w) else {
         return false;
     };

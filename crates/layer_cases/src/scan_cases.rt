@@ -18,11 +18,11 @@
 use crate::words::bytes_of;
 use clock::Time;
 use ffi::drive_words::{
-    nt7508_scan_common_microvolts, nt7508_scan_drive, nt7508_scan_segment_microvolts,
+    NO_COMMON, nt7508_scan_common_microvolts, nt7508_scan_drive, nt7508_scan_segment_microvolts,
 };
 use ffi::scan_words::{nt7508_scan_count_to, nt7508_scan_render};
-use replay::{added, fill, sum_of};
-use scan::{Conditions, Memory};
+use replay::{Numbers, added, fill_memory, sum_of};
+use scan::{Conditions, IMAGE_BYTES, Icons, Memory, Ram};
 use voltage::Supply;
 
 // What a line asks, memory apart.
@@ -38,7 +38,7 @@ struct Request {
 }
 
 // What a line asks, if its fields can hold the numbers.
-fn request_of(w: &[u64; 108]) -> Option<Request> {
+fn request_of(w: &Numbers) -> Option<Request> {
     let mut words = [0; 13];
     words.copy_from_slice(&w[28..41]);
     Some(Request {
@@ -64,7 +64,7 @@ fn request_of(w: &[u64; 108]) -> Option<Request> {
     })
 }
 
-fn count_agrees(request: &Request, w: &[u64; 108]) -> bool {
+fn count_agrees(request: &Request, w: &Numbers) -> bool {
     let mut words = request.words;
     let mut bytes = request.bytes;
     let mut pieces = 0;
@@ -90,15 +90,15 @@ fn electrodes(drive: &[u64; 12]) -> u64 {
 }
 
 // The frame of a line, by its counted scan: duty x PWM, and 0 where no common is driven.
-fn frame_of(w: &[u64; 108]) -> u64 {
+fn frame_of(w: &Numbers) -> u64 {
     let pwm = w[84];
-    if (w[94] == 129) | ![9, 12, 15].contains(&pwm) {
+    if (w[94] == NO_COMMON) | ![9, 12, 15].contains(&pwm) {
         return 0;
     }
     pwm * (w[79] % 256)
 }
 
-fn drive_agrees(request: &Request, memory: Memory<'_>, w: &[u64; 108]) -> bool {
+fn drive_agrees(request: &Request, memory: Memory<'_>, w: &Numbers) -> bool {
     let mut drive = [0; 12];
     let mut frame = 0;
     let number = nt7508_scan_drive(
@@ -118,21 +118,20 @@ fn drive_agrees(request: &Request, memory: Memory<'_>, w: &[u64; 108]) -> bool {
         & (electrodes(&drive) == w[106])
 }
 
-fn image_agrees(request: &Request, memory: Memory<'_>, w: &[u64; 108]) -> bool {
-    let mut image = [0; 6144];
+fn image_agrees(request: &Request, memory: Memory<'_>, w: &Numbers) -> bool {
+    let mut image = [0; IMAGE_BYTES];
     let number = nt7508_scan_render(memory, &mut image, &request.settings, request.driven);
     (number == 0) & (sum_of(&image) == w[107])
 }
 
 // Whether ours answers as a line says.
-pub(crate) fn agrees(w: &[u64; 108]) -> bool {
+pub(crate) fn agrees(w: &Numbers) -> bool {
     let Some(request) = request_of(w) else {
         return false;
     };
-    let mut ram = [0; 4096];
-    let mut icons = [0; 256];
-    fill(w[62], w[63], &mut ram);
-    fill(w[62], w[63] % 251 + 1, &mut icons);
+    let mut ram: Ram = [0; _];
+    let mut icons: Icons = [0; _];
+    fill_memory(w[62], w[63], &mut ram, &mut icons);
     let memory = Memory {
         ram: &ram,
         icons: &icons,

@@ -2,6 +2,7 @@
 // answers of the setting finder, and one kind of lines.
 use crate::words::bytes_of;
 use ffi::voltage_words::nt7508_voltages;
+use replay::Numbers;
 use std::io;
 use voltage::finder::Pair;
 use voltage::{LcdVoltages, Settings, Supply};
@@ -92,7 +93,7 @@ fn flag_of(word: u64) -> Option<bool> {
 }
 
 // The answer to what a line asks, if its fields can hold the numbers.
-fn answer(w: &[u64; 108]) -> Option<[u64; 7]> {
+fn answer(w: &Numbers) -> Option<[u64; 7]> {
     let settings = bytes_of(&w[..8])?;
     let supply = Supply {
         supply_millivolts: u16::try_from(w[8]).ok()?,
@@ -106,6 +107,6 @@ fn answer(w: &[u64; 108]) -> Option<[u64; 7]> {
 
 // Kind 5: contrast regulator power_control booster bias slope trim otp, supply (mV) temperature
 // (millidegrees C, and 2^31) power_save waiting | target pump v0 v1 v2 v3 v4 (microvolts, 2^32 none)
-pub(crate) fn agrees(w: &[u64; 108]) -> bool {
+pub(crate) fn agrees(w: &Numbers) -> bool {
     answer(w).is_some_and(|voltages| voltages[..] == w[12..19])
 }

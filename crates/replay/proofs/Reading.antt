@@ -1,37 +1,47 @@
 -- The case that a text starts with, step by step as it is read.
-use Rattle.std.proofs.Common.{◌≡◌, ℕ, zero, suc, ◌+◌, ◌<◌, ◌≤◌, List, [], ◌∷◌, ◌++◌, length, take, drop, refl, sym, ap, ◌∙◌, arith, length-take, le-ltb, lt-ltb, eq-eqb, ne_eqb, Option, Some, None, Bool, true, false, cond, eqb}
+use Rattle.std.proofs.Common.{◌≡◌, ℕ, zero, suc, ◌<◌, ◌≤◌, List, ◌++◌, length, take, drop, refl, sym, ap, ◌∙◌, arith, length-take, le-ltb, lt-ltb, eq-eqb, ne_eqb, Option, Some, None, IfOk, IfErr, Bool, true, false, cond, eqb}
 use borrow.Author.Tests.{eqb-true, eqb-false}
-use Rattle.std.specs.Prelude.{slice_get, option_map}
+use Rattle.std.specs.Prelude.{Result, Ok, Err, option_map}
+use Rattle.std.specs.Result.{result_ok}
 use Rattle.std.proofs.lemmas.Option.{none-some}
 use Rattle.decimal.specs.Decimal.{Read, field_at, line_at}
 use Rattle.decimal.specs.Rest.{read_of, field_in, line_rest, line_in}
 use Rattle.decimal.proofs.Rests.{same_value, same_rest, line_there}
-use Rattle.replay.specs.Cases.{length_of, count_of, case_of, kind_in, case_at, behind, case_in}
+use Rattle.replay.specs.declared.cases.Kind.{Kind}
+use Rattle.replay.specs.declared.cases.NoKind.{NoKind}
+use Rattle.replay.specs.Cases.{number_of, length_of, count_of, case_of, kind_in, case_at, behind, case_in}
 
--- the table of the code, which lacks the 0 of no kind
-pub counts : (k : ℕ) → slice_get (3 ∷ 10 ∷ 9 ∷ 11 ∷ 19 ∷ 108 ∷ 77 ∷ 10 ∷ []) k ≡ count_of (suc k)
+-- a number that is none of a kind
+pub no_kind :
+    (n : ℕ) → (n ≡ 1 → ⊥) → (n ≡ 2 → ⊥) → (n ≡ 3 → ⊥) → (n ≡ 4 → ⊥) → (n ≡ 5 → ⊥) → (n ≡ 6 → ⊥) → (n ≡ 7 → ⊥) → (n ≡ 8 → ⊥) → None ≡ count_of n
 unfolding length_of
-counts zero = refl
-counts (suc zero) = refl
-counts (suc (suc zero)) = refl
-counts (suc (suc (suc zero))) = refl
-counts (suc (suc (suc (suc zero)))) = refl
-counts (suc (suc (suc (suc (suc zero))))) = refl
-counts (suc (suc (suc (suc (suc (suc zero)))))) = refl
-counts (suc (suc (suc (suc (suc (suc (suc zero))))))) = refl
-counts (suc (suc (suc (suc (suc (suc (suc (suc k)))))))) = refl
-
-pub count_behind : (kind k : ℕ) → k + 1 ≡ kind → slice_get (3 ∷ 10 ∷ 9 ∷ 11 ∷ 19 ∷ 108 ∷ 77 ∷ 10 ∷ []) k ≡ count_of kind
-count_behind kind k e = let same : suc k ≡ kind = omega arith in counts k ∙ ap count_of same
-
-pub no_kind_0 : (kind : ℕ) → kind < 1 → None ≡ count_of kind
-unfolding length_of
-no_kind_0 zero h = refl
-no_kind_0 (suc kind) h = absurd (omega arith)
+no_kind zero _ _ _ _ _ _ _ _ = refl
+no_kind (suc zero) h1 h2 h3 h4 h5 h6 h7 h8 = absurd (h1 refl)
+no_kind (suc (suc zero)) h1 h2 h3 h4 h5 h6 h7 h8 = absurd (h2 refl)
+no_kind (suc (suc (suc zero))) h1 h2 h3 h4 h5 h6 h7 h8 = absurd (h3 refl)
+no_kind (suc (suc (suc (suc zero)))) h1 h2 h3 h4 h5 h6 h7 h8 = absurd (h4 refl)
+no_kind (suc (suc (suc (suc (suc zero))))) h1 h2 h3 h4 h5 h6 h7 h8 = absurd (h5 refl)
+no_kind (suc (suc (suc (suc (suc (suc zero)))))) h1 h2 h3 h4 h5 h6 h7 h8 = absurd (h6 refl)
+no_kind (suc (suc (suc (suc (suc (suc (suc zero))))))) h1 h2 h3 h4 h5 h6 h7 h8 = absurd (h7 refl)
+no_kind (suc (suc (suc (suc (suc (suc (suc (suc zero)))))))) h1 h2 h3 h4 h5 h6 h7 h8 = absurd (h8 refl)
+no_kind (suc (suc (suc (suc (suc (suc (suc (suc (suc k))))))))) _ _ _ _ _ _ _ _ = refl
 
 abbrev of : Option ℕ → ℕ
 of None = 0
 of (Some m) = m
+
+module _ (number : ℕ) where
+  -- what is answered for a number
+  abbrev Answered : Result Kind NoKind → Type 0
+  Answered r = IfOk r (λ kind. number_of kind ≡ number) × IfErr r (λ _. None ≡ count_of number)
+
+  pub kind_there : (r : Result Kind NoKind) → Answered r → (kind : Kind) → Some kind ≡ result_ok r → number_of kind ≡ number
+  kind_there (Ok k) a kind e = ap of (ap (option_map number_of) e) ∙ a.0
+  kind_there (Err _) a kind e = absurd (none-some kind (sym e))
+
+  pub kind_lacks : (r : Result Kind NoKind) → Answered r → None ≡ result_ok r → None ≡ count_of number
+  kind_lacks (Ok k) a e = absurd (none-some k e)
+  kind_lacks (Err _) a e = a.1
 
 -- a count that is given, or is not
 pub counted : (kind n : ℕ) → Some n ≡ count_of kind → (length_of kind ≡ n) × (n ≡ 0 → ⊥)

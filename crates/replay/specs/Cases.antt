@@ -3,16 +3,29 @@ use Rattle.std.specs.Prelude.{ℕ, cond, List, [], ◌∷◌, ◌++◌, length, 
 use Rattle.decimal.specs.Decimal.{Read}
 use Rattle.decimal.specs.Decimal.{field_at, line_at}
 use Rattle.replay.specs.declared.cases.Case as lent
+use Rattle.replay.specs.declared.cases.Kind.{Kind}
+use Rattle.replay.specs.declared.cases.Kind.TheVariants.{Micros, NewClock, Edges, MovedClock, Voltages, Scan, Start, Call}
 
 -- the kind of a case, and the place of the next line
 pub record Case : Type 0 where
   pub kind : ℕ
   pub next : ℕ
 
+-- the number of a kind in the lists
+abbrev pub number_of : Kind → ℕ
+number_of Micros = 1
+number_of NewClock = 2
+number_of Edges = 3
+number_of MovedClock = 4
+number_of Voltages = 5
+number_of Scan = 6
+number_of Start = 7
+number_of Call = 8
+
 -- what is read of a text's start: the kind, and what follows
 abbrev pub case_view : Option lent.Case → Option (ℕ × List ℕ)
 case_view None = None
-case_view (Some case) = Some (case.kind, case.rest.now)
+case_view (Some case) = Some (number_of case.kind, case.rest.now)
 
 -- how many numbers a case has, by its kind from 1 on; 0 for no kind
 unfoldable pub length_of : ℕ → ℕ

@@ -7,7 +7,7 @@ mod lists;
 mod rules;
 mod tally;
 
-pub use cases::{Case, read_case};
+pub use cases::{Case, Kind, NoKind, Numbers, read_case};
 pub use lists::{Cases, Replayed, replay_file, replay_list};
-pub use rules::{added, fill, sum_of, sum_of_words};
+pub use rules::{added, fill, fill_memory, sum_of, sum_of_words};
 pub use tally::Tally;

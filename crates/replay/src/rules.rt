@@ -1,5 +1,5 @@
 // The rules of a list: memory stands there as two numbers, and a long answer as its sum.
-ghost use Rattle.std.specs.Prelude.{◌≡◌};
+ghost use Rattle.std.specs.Prelude.{◌≡◌, ◌+◌, ◌%◌};
 ghost use Rattle.replay.specs.Rules.{added as added_to, sum_of, sum_of_words, filled};
 
 // One number more in a sum.
@@ -36,4 +36,13 @@ pub fn fill(step: u64, first: u64, memory: &mut [u8])
         *byte = value as u8;
         value = (value + step % 251) % 251;
     }
+}
+
+// RAM and icons by two numbers: icon byte i is (step i + first + 1) mod 251. The remainder leaves that sum room.
+pub fn fill_memory(step: u64, first: u64, ram: &mut [u8], icons: &mut [u8])
+    ensures ram { ram.new ≡ filled step first ram.old }
+    ensures icons { icons.new ≡ filled step (first % 251 + 1) icons.old }
+{
+    fill(step, first, ram);
+    fill(step, first % 251 + 1, icons);
 }

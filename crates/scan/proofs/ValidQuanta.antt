@@ -1,5 +1,5 @@
 -- A quantum keeps a scan valid: numbers 4 and 5 hold of what is counted.
-use Rattle.std.proofs.Common.{◌≡◌, ℕ, zero, suc, ◌+◌, ◌/◌, ◌%◌, ◌<◌, ◌≤◌, Bool, true, false, cond, ◌||◌, eqb, leb, ◌⊎◌, get_or, refl, inl, inr, mod-lt, arith, ne_eqb, eqb-true, leb-false, leb-true}
+use Rattle.std.proofs.Common.{◌≡◌, ℕ, zero, suc, ◌+◌, ◌/◌, ◌%◌, ◌<◌, ◌≤◌, Bool, true, false, cond, ◌&&◌, ◌||◌, eqb, leb, ltb, ◌⊎◌, get_or, refl, ap, inl, inr, mod-lt, arith, ne_eqb, eqb-true, leb-false, leb-true}
 use mathlib.Core.Bool.{false≢true}
 use Rattle.std.specs.Prelude.{Option, Some, None}
 use Rattle.clock.specs.declared.time.Time.{Time}
@@ -11,7 +11,7 @@ use Rattle.clock.specs.Time.{in_range}
 use Rattle.clock.proofs.Checks.{valid, valid_test}
 use Rattle.clock.proofs.Laws.{earlier_in_range, moved_valid, started_valid}
 use Rattle.clock.proofs.Rates.{lcd_bounds, lcd_given, same_rate_lem}
-use Rattle.scan.specs.Check.{lines_ok, frc_count_ok, pwm_ok, valid_running}
+use Rattle.scan.specs.Check.{lines_ok, frc_count_ok, pwm_ok, valid_frame, valid_settings, valid_running}
 use Rattle.scan.specs.Count.{due_at, due}
 use Rattle.scan.specs.Quantum.{row_ends, frame_ends, lines_end, count_on, inversion_after, frame_after, ticked, ticked_to, quantum}
 use Rattle.scan.specs.Settings.{pwm_widths, pwm_of, frc_count_of, frame_of, rows_of, rows_in, rate_of}
@@ -98,6 +98,25 @@ rows_high f = (rows_between f.duty f.icon).1
 pub frame_of_fits : (s : Settings) → ValidSettings s → FrameFits (frame_of s)
 unfolding frame_of
 frame_of_fits s vs = record { duty_low = vs.duty_low; duty_high = vs.duty_high; com_below = vs.com_below; line_below = vs.line_below; frc_count_ok_lem = frc_count_of_ok s.gray_mode }
+
+-- the conditions of settings, those of their frame first
+frame_first : (a b d e k : Bool) → k ≡ true → d && e && b && a && k ≡ a && b && d && e
+frame_first true true true true k h = h
+frame_first false true true true k h = refl
+frame_first true false true true k h = refl
+frame_first false false true true k h = refl
+frame_first true true true false k h = refl
+frame_first false b true false k h = refl
+frame_first true false true false k h = refl
+frame_first true true false e k h = refl
+frame_first false b false e k h = refl
+frame_first true false false e k h = refl
+
+pub frame_tests : (s : Settings) → valid_frame (frame_of s) && lines_ok s.inversion_lines && leb s.gray_mode 7 && leb s.oscillator_control 3 && leb s.oscillator_frequency 31 ≡ valid_settings s
+unfolding valid_frame valid_settings frame_of
+frame_tests s =
+    ap (λ (t : Bool). t && lines_ok s.inversion_lines && leb s.gray_mode 7 && leb s.oscillator_control 3 && leb s.oscillator_frequency 31)
+    (frame_first (ltb s.start_line 128) (ltb s.initial_com 128) (leb 16 s.duty) (leb s.duty 128) _ (frc_count_of_ok s.gray_mode))
 
 pub frc_count_taken : (s : Settings) → (frame_of s).frc_count ≡ frc_count_of s.gray_mode
 unfolding frame_of

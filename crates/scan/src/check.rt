@@ -1,12 +1,17 @@
 // The checks of settings, scan and lent memory, and the table's order: document 01, 'Where a call is
 // turned down', numbers 2, 8, 1, 3, 4 and 5.
+//
+// Calls take scan, settings and moment as three parameters, and no struct of them: along one call the scan
+// changes step by step, and a byte has two groups of settings, so that a struct would be taken apart and put
+// together at each step, with a copy of the scan. The checks by call differ in what they ask:
+// `check_moment` no memory, `check_lent` memory too, `check_image` memory and an image, but no scan or moment.
 ghost use Rattle.std.specs.Prelude.{◌≡◌, IfOk};
 ghost use Rattle.checks.specs.Checks.{row, first_of};
-ghost use Rattle.scan.specs.declared.check.Refusal.TheVariants.{Settings as SettingsRefused};
 ghost use Rattle.scan.specs.Check.{number as number_of, by_clock, refused, lines_ok, valid_settings, settings_row, valid_frame, valid_inversion, valid_scan, check_scan, memory_ok, image_ok, check_moment, check_lent, check_image, check_but_clock};
 
+use crate::image::IMAGE_BYTES;
 use crate::memory::{Lent, Memory};
-use crate::settings::{Frame, Settings, rows_in};
+use crate::settings::{Frame, Settings, frame_of, rows_in};
 use crate::state::{Inversion, Scan};
 use checks::{Check, Numbered};
 use clock::Time;
@@ -38,17 +43,6 @@ impl Numbered for Refusal {
     }
 }
 
-// Voltages are turned down for their settings alone.
-impl From<voltage::Refusal> for Refusal {
-    ghost from_gives = { λ _ given. given ≡ SettingsRefused };
-
-    fn from(why: voltage::Refusal) -> Refusal {
-        match why {
-            voltage::Refusal::Settings => Refusal::Settings,
-        }
-    }
-}
-
 // A rate that is no LCD rate is number 4, as a scan's other conditions are.
 impl From<clock::Refusal> for Refusal {
     ghost from_gives = { λ why given. given ≡ by_clock why };
@@ -74,10 +68,7 @@ impl Settings {
     pub fn valid(self) -> bool
         ensures { result ≡ valid_settings self }
     {
-        (self.start_line < 128)
-            & (self.initial_com < 128)
-            & (16 <= self.duty)
-            & (self.duty <= 128)
+        valid_frame(frame_of(self))
             & lines_ok(self.inversion_lines)
             & (self.gray_mode <= 7)
             & (self.oscillator_control <= 3)
@@ -160,11 +151,12 @@ impl Check for Settings {
 pub fn image_ok(bytes: usize) -> bool
     ensures { result ≡ image_ok bytes }
 {
-    bytes == 6144
+    bytes == IMAGE_BYTES
 }
 
 // The checks of a call that takes a moment, but for number 5: some calls ask the clock themselves.
-// `settings_ok` says that number 3 does not apply.
+// `settings_ok` says that number 3 does not apply. It is a bool and no refusal, since a drive and a byte have two
+// groups of settings: both are asked at this one place in the table's order.
 #[tactic(auto, unfolding(crate::specs::Check::check_but_clock, crate::specs::Check::in_order))]
 pub(crate) fn check_but_clock(scan: Scan, settings_ok: bool, now: Time) -> Result<(), Refusal>
     ensures { refused result ≡ check_but_clock scan settings_ok now }

@@ -29,45 +29,46 @@ fn flip(b: bool, n: u64) -> bool
     if n % 2 == 0 { b } else { !b }
 }
 
-// How often ended rows and frames flip.
-fn flips_in(lines: u8, count: u8, ends: Ends) -> u64
-    ensures { result ≡ flips_in lines count ends.rows ends.frames }
-{
-    if lines == 0 {
-        return ends.frames;
+impl Inversion {
+    // How often ended rows and frames flip.
+    fn flips_in(self, ends: Ends) -> u64
+        ensures { result ≡ flips_in self.lines self.count ends.rows ends.frames }
+    {
+        if self.lines == 0 {
+            return ends.frames;
+        }
+        (u64::from(self.count) + ends.rows) / u64::from(self.lines)
     }
-    (u64::from(count) + ends.rows) / u64::from(lines)
-}
 
-// The count of rows after ended rows.
-fn count_in(lines: u8, count: u8, ends: Ends) -> u8
-    ensures { result ≡ count_in lines count ends.rows }
-{
-    if lines == 0 {
-        return count;
+    // The count of rows after ended rows.
+    fn count_in(self, ends: Ends) -> u8
+        ensures { result ≡ count_in self.lines self.count ends.rows }
+    {
+        if self.lines == 0 {
+            return self.count;
+        }
+        ((u64::from(self.count) + ends.rows) % u64::from(self.lines)) as u8
     }
-    ((u64::from(count) + ends.rows) % u64::from(lines)) as u8
-}
 
-// The same where the last row's end takes the lines `taken`.
-fn count_taken(lines: u8, taken: u8, count: u8, ends: Ends) -> u8
-    ensures { result ≡ count_taken lines taken count ends.rows }
-{
-    if lines == taken {
-        return count_in(lines, count, ends);
+    // The same where the last row's end takes these lines.
+    fn count_taken(self, lines: u8, ends: Ends) -> u8
+        ensures { result ≡ count_taken self.lines lines self.count ends.rows }
+    {
+        if self.lines == lines {
+            return self.count_in(ends);
+        }
+        0
     }
-    0
-}
 
-// The inversion after ended rows, one at least, and ended frames.
-pub(crate) fn inversion_taken(inversion: Inversion, lines: u8, ends: Ends) -> Inversion
-    ensures { result ≡ inversion_taken inversion lines ends.rows ends.frames }
-{
-    let flips = flips_in(inversion.lines, inversion.count, ends);
-    Inversion {
-        lines,
-        count: count_taken(inversion.lines, lines, inversion.count, ends),
-        inverted: flip(inversion.inverted, flips),
+    // The inversion after ended rows, one at least, and ended frames.
+    pub(crate) fn taken(self, lines: u8, ends: Ends) -> Inversion
+        ensures { result ≡ inversion_taken self lines ends.rows ends.frames }
+    {
+        Inversion {
+            lines,
+            count: self.count_taken(lines, ends),
+            inverted: flip(self.inverted, self.flips_in(ends)),
+        }
     }
 }
 
@@ -89,7 +90,7 @@ fn rows_ended(scan: Scan, settings: Settings, step: u8, row: u8, ends: Ends) -> 
     next.pwm = pwm_of(settings.gray_mode);
     next.row = row;
     next.step = step;
-    next.inversion = inversion_taken(scan.inversion, settings.inversion_lines, ends);
+    next.inversion = scan.inversion.taken(settings.inversion_lines, ends);
     next.latch.latched = false;
     next
 }

@@ -50,7 +50,8 @@ fn next_span(whole: u64, remainder: u64, fraction: u64, numerator: u64) -> u64
     }
 }
 
-// A time later by less than a second.
+// A time later by less than a second. Not `Time::checked_add`: that was tried, and tests for an overflow that
+// cannot be, so that a drive takes some 2 ns more.
 fn later(seconds: u64, fraction: u64, span: u64) -> Time
     requires { seconds < 2 ^ 32 }
     ensures { raw result ≡ seconds * 2 ^ 64 + fraction + span }
@@ -65,7 +66,7 @@ fn later(seconds: u64, fraction: u64, span: u64) -> Time
 // Whether the next edge is not later than now: one comparison, where a count divides. Not inline: a scan that
 // is read beside its copy is copied in parts, and what then reads the copy waits.
 #[inline(never)]
-fn is_due(scan: &Checked<Scan>, now: Time) -> bool
+pub(crate) fn is_due(scan: &Checked<Scan>, now: Time) -> bool
     ensures { result ≡ due scan.now.value now }
 {
     let Some(clock) = &scan.value.ticking.clock else {
@@ -91,7 +92,19 @@ impl Scan {
     }
 }
 
-// The scan counted to now, where every check has passed. Most drives find no edge due.
+// The scan counted to now, where every check has passed.
+pub(crate) fn counted_to(
+    scan: Checked<Scan>,
+    settings: Checked<Settings>,
+    now: Checked<Time>,
+) -> Scan
+    ensures { result ≡ count_to scan.value settings.value now.value }
+{
+    let counted = scan.value.count_to(settings.value, now.value).unwrap();
+    counted.scan
+}
+
+// The same with its check. Mostly no edge is due.
 pub(crate) fn latest(
     scan: Checked<Scan>,
     settings: Checked<Settings>,
@@ -102,8 +115,7 @@ pub(crate) fn latest(
     if !is_due(&scan, now.value) {
         return scan;
     }
-    let counted = scan.value.count_to(settings.value, now.value).unwrap();
     Checked {
-        value: counted.scan,
+        value: counted_to(scan, settings, now),
     }
 }

@@ -5,7 +5,7 @@ ghost use Rattle.voltage.specs.Voltage.{voltages};
 ghost use Rattle.scan.specs.Drive.{runs as runs_by, driven as driven_by, grounded as grounded_by, common_of, undriven as undriven_of, drive_of, drive_at, quanta_of, frame_at, answered_drive, drive_scan, common_level, segment_level, active_in, common_microvolts, segment_microvolts};
 
 use crate::check::{Refusal, check_lent};
-use crate::count::latest;
+use crate::count::{counted_to, is_due};
 use crate::latch::shown;
 use crate::memory::{Lent, Memory};
 use crate::settings::Settings;
@@ -42,6 +42,9 @@ pub struct Driven {
 }
 
 impl Conditions {
+    // The two voltages below are rules of their own: the glass is driven from 2,400 mV, and the chip works, and
+    // so grounds the electrodes, from 1,650 mV.
+
     // Whether the scan runs.
     pub fn runs(self) -> bool
         ensures { result ≡ runs_by self }
@@ -67,6 +70,7 @@ impl Conditions {
     }
 }
 
+// 128 is the common of the icons, by the chip's own numbering.
 fn common_of(scan: Scan) -> u8
     ensures { result ≡ common_of scan }
 {
@@ -110,6 +114,18 @@ fn quanta_of(scan: Scan) -> u16
     u16::from(scan.frame.duty) * u16::from(scan.pwm)
 }
 
+// The drive and the frame of a scan that is counted to the moment. Not inline: a scan whose fields are read where
+// it is copied is copied in parts, and what then reads the copy waits.
+#[inline(never)]
+fn driven_of(scan: &Scan, settings: Settings, voltages: LcdVoltages, lent: Lent<'_>) -> Driven
+    ensures { result ≡ record { drive = drive_of scan.now settings voltages lent.entry.ram.now lent.entry.icons.now; frame = quanta_of scan.now } }
+{
+    Driven {
+        drive: drive_of(*scan, settings, voltages, lent),
+        frame: quanta_of(*scan),
+    }
+}
+
 fn driven_at(
     scan: Checked<Scan>,
     settings: Checked<Settings>,
@@ -126,11 +142,11 @@ fn driven_at(
             frame: 0,
         };
     }
-    let latest = latest(scan, settings, moment).value;
-    Driven {
-        drive: drive_of(latest, settings.value, voltages, lent),
-        frame: quanta_of(latest),
+    if !is_due(&scan, moment.value) {
+        return driven_of(&scan.value, settings.value, voltages, lent);
     }
+    let counted = counted_to(scan, settings, moment);
+    driven_of(&counted, settings.value, voltages, lent)
 }
 
 // The levels of settings that passed, which are not refused.

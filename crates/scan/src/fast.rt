@@ -6,7 +6,7 @@ ghost use Rattle.clock.specs.Time.{in_range};
 ghost use Rattle.scan.specs.Check.{valid_settings, valid_scan};
 ghost use Rattle.scan.specs.Fast.{counted_fast, fast_byte, in_force, inversion_on, with_counters, rows_on, moved_on};
 
-use crate::closed::{Ends, Quanta, inversion_taken};
+use crate::closed::{Ends, Quanta};
 use crate::count::{frame_same, rate_same, row_same};
 use crate::latch::{latch_retained, stays_shown};
 use crate::memory::Memory;
@@ -27,7 +27,7 @@ fn in_force(scan: Scan, settings: Settings) -> bool
 fn inversion_on(inversion: Inversion, ends: Ends) -> Inversion
     ensures { result ≡ inversion_on inversion ends.rows ends.frames }
 {
-    inversion_taken(inversion, inversion.lines, ends)
+    inversion.taken(inversion.lines, ends)
 }
 
 // The scan with this clock and these counters; what it has taken stays.
@@ -122,8 +122,9 @@ fn counted_fast(scan: Scan, settings: Checked<Settings>, now: Checked<Time>) -> 
     Some(moved_on(Checked { value: scan }, passed.clock, quanta))
 }
 
-// The same settings, field by field: what a call takes stands in memory, and where few bytes come to the
-// call, the settings of the others need not.
+// The same settings, field by field, for speed alone. Handed on as they are, settings have to stand in memory for
+// the call that makes the latch, and the compiler puts them there at the start, for every byte. Field by field
+// they are put there only for the few bytes that come to that call.
 fn copied(settings: Settings) -> Settings
     ensures { result ≡ settings }
 {
@@ -145,7 +146,8 @@ fn copied(settings: Settings) -> Settings
     }
 }
 
-// Every check but those of memory and clock passes.
+// Every check but those of memory and clock passes. Not `check_but_clock(..).is_ok()`: that was tried, and
+// branches after each check, so that a byte takes 1 ns more.
 fn checks_pass(scan: Scan, settings: Settings, moment: Time) -> bool
     ensures { result ≡ in_range moment && valid_settings settings && valid_scan scan }
 {
@@ -179,6 +181,7 @@ impl Scan {
         if !settled(counted, settings, running) {
             return None;
         }
+        // Not `retained`: as in byte.rt, that copies the scan once more, and a byte takes 1 to 2 ns more.
         if stays_shown(counted, page) {
             return Some(counted);
         }

@@ -15,11 +15,14 @@ pub const LCD_WIDTH: usize = 96;
 
 pub const LCD_HEIGHT: usize = 64;
 
+// A byte for each pixel.
+pub const IMAGE_BYTES: usize = LCD_WIDTH * LCD_HEIGHT;
+
 // Whether the glass shows anything.
 fn lit_by(settings: Settings, driven: bool) -> bool
     ensures { result ≡ lit_by settings driven }
 {
-    driven & (settings.oscillator_control % 2 == 0)
+    driven & settings.keeps_clock()
 }
 
 // A shade's widths, summed over the phases of the gray cycle.

@@ -9,7 +9,7 @@ use crate::segments::{active_shades, row_words};
 use crate::settings::Settings;
 use crate::state::{Latch, Scan};
 
-// The row of the icons.
+// The row of the icons, by the chip's own numbering: RAM has the rows 0 to 127.
 pub(crate) const ICON_ROW: u8 = 128;
 
 pub(crate) fn latched_row(scan: Scan) -> u8
@@ -39,7 +39,8 @@ pub(crate) fn shown(scan: Scan, settings: Settings, lent: Lent<'_>) -> [u64; 2]
     present_latch(scan, settings, lent)
 }
 
-// Whether a byte could alter what a row shows: `page` is where a data byte goes, none for a command.
+// Whether a byte could alter what a row shows: `page` is where a data byte goes, none for a command. Page
+// 16 is that of the icons, as the chip numbers its pages.
 fn affected(page: Option<u8>, row: u8) -> bool
     ensures { result ≡ affects page row }
 {

@@ -4,6 +4,11 @@ ghost use Rattle.scan.specs.Check.{refused, memory_ok, memory_row};
 
 use crate::check::Refusal;
 
+// The display RAM, and the icons.
+pub type Ram = [u8; 4096];
+
+pub type Icons = [u8; 256];
+
 // Lent memory to be read.
 #[derive(Clone, Copy, Drop)]
 pub struct Memory<'a> {
@@ -14,8 +19,8 @@ pub struct Memory<'a> {
 // Memory that passed number 2: its type tells its lengths.
 #[derive(Clone, Copy, Drop)]
 pub(crate) struct Lent<'a> {
-    pub ram: &'a [u8; 4096],
-    pub icons: &'a [u8; 256],
+    pub ram: &'a Ram,
+    pub icons: &'a Icons,
 }
 
 impl<'a> Memory<'a> {
@@ -32,12 +37,8 @@ impl<'a> Memory<'a> {
         ensures refuses { refused result ≡ memory_row self.entry.ram.now self.entry.icons.now }
         ensures keeps { IfOk result (λ lent. (lent.ram.now ≡ self.entry.ram.now) × (lent.icons.now ≡ self.entry.icons.now)) }
     {
-        let Some(ram) = self.ram.as_array() else {
-            return Err(Refusal::Memory);
-        };
-        let Some(icons) = self.icons.as_array() else {
-            return Err(Refusal::Memory);
-        };
+        let ram = self.ram.as_array().ok_or(Refusal::Memory)?;
+        let icons = self.icons.as_array().ok_or(Refusal::Memory)?;
         Ok(Lent { ram, icons })
     }
 

@@ -5,10 +5,12 @@ ghost use Rattle.scan.specs.Image.{up_to, image_row, rows_up_to};
 ghost use Rattle.scan.specs.Paint.{levels_of, row_level};
 
 use crate::image::{LCD_HEIGHT, LCD_WIDTH, level_of, line_of, ram_row_of};
+use crate::memory::Ram;
 use crate::planes::{RowBits, shown_shade};
 use crate::settings::Settings;
 
 // The levels of what the two bits of a segment show, by their number: worked out once for all pixels.
+// Four lines and no `map` of [0, 1, 2, 3]: that was tried, and the proof did not close, as in planes.rt.
 fn levels_of(settings: Settings) -> [u8; 4]
     ensures { result ≡ levels_of settings }
 {
@@ -35,7 +37,7 @@ pub(crate) fn paint_row(
     settings: Settings,
     lit: bool,
     levels: [u8; 4],
-    ram: &[u8; 4096],
+    ram: &Ram,
     y: u8,
     row: &mut [u8],
 )
@@ -53,7 +55,7 @@ pub(crate) fn paint_row(
 }
 
 // All glass rows.
-pub(crate) fn paint(settings: Settings, lit: bool, ram: &[u8; 4096], image: &mut [u8])
+pub(crate) fn paint(settings: Settings, lit: bool, ram: &Ram, image: &mut [u8])
     requires { length image.old ≡ 6144 }
     ensures { image.new ≡ rows_up_to (image_row settings lit ram.now) 64 }
 {

@@ -5,6 +5,7 @@ ghost use Rattle.std.specs.Prelude.{◌≡◌, ◌+◌, ◌/◌, ◌%◌, ◌<�
 ghost use Rattle.scan.specs.Shade.{column_of, page_of};
 ghost use Rattle.scan.specs.Planes.{row_bits, AreBits, planes_in, shown_shade, eight_from, planes_from};
 
+use crate::memory::Ram;
 use crate::settings::Settings;
 
 // The bits of a row, one of each of the 256 bytes that it stands in.
@@ -21,7 +22,9 @@ impl RowBits {
         ensures { result.bits ≡ row_bits part.now place }
     {
         let mut bits = [0; 256];
-        // `part` by index: of what is written through a `zip` a proof knows nothing.
+        // `part` by index: of what is written through a `zip` a proof knows nothing. Array `map` was tried, and
+        // the proof did not close: it says of each element only what some call of the closure gives, and not
+        // that `place` is still the same at that call.
         for (at, bit) in bits.iter_mut().enumerate() {
             *bit = (part[at] >> place) % 2;
         }
@@ -29,7 +32,7 @@ impl RowBits {
     }
 
     // The bits of a row of RAM: eight rows stand in the 256 bytes of a page.
-    pub(crate) fn of_ram(ram: &[u8; 4096], row: u8) -> RowBits
+    pub(crate) fn of_ram(ram: &Ram, row: u8) -> RowBits
         requires { row < 128 }
         ensures { result.bits ≡ row_bits (page_of ram.now (row / 8)) (row % 8) }
     {

@@ -14,7 +14,8 @@ use crate::state::{Inversion, Latch, Scan, Ticking, start_clock, with_ticking};
 use checks::Checked;
 use clock::Time;
 
-// The effect of a byte on the scan: it makes it run, leaves it running, or the scan does not run.
+// The effect of a byte on the scan: it makes it run, leaves it running, or the scan does not run. Calls take it
+// beside `page` and not in one struct: `before_byte` asks for the page alone, `after_byte` for this alone.
 #[derive(Clone, Copy, Debug, PartialEq, Eq)]
 pub enum Running {
     Begins,
@@ -99,7 +100,7 @@ fn stopped(scan: Scan) -> Scan
 fn clocked(scan: Checked<Scan>, settings: Checked<Settings>, moment: Checked<Time>) -> Scan
     ensures { result ≡ clocked_of scan.value settings.value moment.value }
 {
-    if settings.value.oscillator_control % 2 != 0 {
+    if !settings.value.keeps_clock() {
         return stopped(scan.value);
     }
     if scan.value.ticking.clock.is_some() {
@@ -111,7 +112,8 @@ fn clocked(scan: Checked<Scan>, settings: Checked<Settings>, moment: Checked<Tim
     with_ticking(scan.value, start_clock(moment, rate), rate.value)
 }
 
-// A scan that ran before: it goes on, or does not run any more.
+// A scan that ran before: it goes on, or does not run any more. `runs` is a bool, since `rise` is handed one;
+// `updated` writes out the two cases, since a match on Running has to have them anyway.
 fn resumed(
     scan: Checked<Scan>,
     settings: Checked<Settings>,
@@ -142,7 +144,7 @@ pub(crate) fn settled(scan: Scan, settings: Settings, running: Running) -> bool
     let stay = lines_stay(scan.inversion, settings);
     match running {
         Running::Begins => false,
-        Running::Continues => stay & (clocked == (settings.oscillator_control % 2 == 0)),
+        Running::Continues => stay & (clocked == settings.keeps_clock()),
         Running::Stands => stay & !clocked,
     }
 }

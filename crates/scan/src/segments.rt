@@ -11,7 +11,8 @@ use crate::settings::Settings;
 use crate::shade::pulse_width;
 use crate::state::Scan;
 
-// The activity of what the two bits of a segment show, by their number: it holds for a whole row.
+// The activity of what the two bits of a segment show, by their number: it holds for a whole row. Four
+// lines and no `map` of [0, 1, 2, 3], as in paint.rt: its proof would go by each call of the closure in turn.
 pub(crate) fn active_shades(scan: Scan, settings: Settings) -> [bool; 4]
     ensures { result ≡ active_shades scan settings }
 {
@@ -83,7 +84,8 @@ fn both_words(bits: &RowBits, active: [bool; 4], reversed: bool) -> [u64; 2]
     ]
 }
 
-// The bits of a row of RAM, or of the icons.
+// The bits of a row of RAM, or of the icons. Rows go up to 128, segments stay below 128: two ranges, so that
+// no type of one bounded number would do for both.
 fn row_bits(row: u8, lent: Lent<'_>) -> RowBits
     requires { row ≤ 128 }
     ensures { result.bits ≡ bits_at row lent.entry.ram.now lent.entry.icons.now }

@@ -1,5 +1,5 @@
 // The registers that counting, latch and image read, and what they say of the scan.
-ghost use Rattle.std.specs.Prelude.{◌≡◌};
+ghost use Rattle.std.specs.Prelude.{◌≡◌, ◌%◌, ◌==◌};
 ghost use Rattle.scan.specs.Settings.{pwm_of, frc_count_of, frame_of, rows_in, rate_of};
 
 use clock::Rate;
@@ -19,6 +19,15 @@ pub struct Settings {
     pub palette: [u8; 8],
     pub oscillator_control: u8,
     pub oscillator_frequency: u8,
+}
+
+impl Settings {
+    // Whether oscillator control leaves a scan its clock: bit 0 drops it.
+    pub(crate) fn keeps_clock(self) -> bool
+        ensures { result ≡ (self.oscillator_control % 2 == 0) }
+    {
+        self.oscillator_control % 2 == 0
+    }
 }
 
 // The settings that a frame end takes, and the scan holds until the next.

@@ -22,7 +22,8 @@ pub struct Latch {
     pub latched: bool,
 }
 
-// The polarity, and the rows since it last changed where it changes every `lines` rows.
+// The polarity, and the rows since it last changed where it changes every `lines` rows. `lines` 0 is
+// inversion by frame: that is how the register codes it, and what the C interface shows, so that this is no Option.
 #[derive(Clone, Copy, Debug, PartialEq, Eq)]
 pub struct Inversion {
     pub lines: u8,

@@ -17,7 +17,8 @@ use crate::state::{Latch, Scan, Ticking, start_clock, with_ticking};
 use checks::Checked;
 use clock::{Clock, Rate, Time};
 
-// Quanta counted, and the uses of the piece rule that took.
+// Quanta counted, and the uses of the piece rule that took. Not `Counted`, the answer of a public call: that has
+// a byte for the number, and it is known only at the end of a count that it fits.
 #[derive(Clone, Copy, Debug, PartialEq, Eq)]
 struct Run {
     scan: Scan,

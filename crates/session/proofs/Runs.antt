@@ -49,13 +49,13 @@ module _ (p : List ℕ × ℕ) (line : ℕ) (l : List ℕ) (ls : List (List ℕ)
   run_stopped number h = ap (λ (c : Option ℕ). laid_from p (onward c line t (run_from (line + 1) ls))) h
 
 -- a line, as far as its refusal: malformed, or refused by its call
-pub malformed_step : (m : Machine) (out : List ℕ) (at : ℕ) → stepped at (Err Why.Line) m out ≡ step_of (turn_of None m) (out, at)
+pub malformed_step : (m : Machine) (p : List ℕ × ℕ) → stepped (Err Why.Line) m p ≡ step_of (turn_of None m) p
 unfolding turn_of put
-malformed_step m out at = refl
+malformed_step m p = refl
 
-pub refused_step : (us : ℕ) (why : Why) (m : Machine) (out : List ℕ) (at : ℕ) {t : Turn} → turned us (Err why) m ≡ t → stepped at (Err why) m out ≡ step_of t (out, at)
+pub refused_step : (us : ℕ) (why : Why) (m : Machine) (p : List ℕ × ℕ) {t : Turn} → turned us (Err why) m ≡ t → stepped (Err why) m p ≡ step_of t p
 unfolding put
-refused_step us why m out at e = λ i. ((e i).refusal, ((e i).machine, put (out, at) (e i).shown))
+refused_step us why m p e = λ i. ((e i).refusal, ((e i).machine, put p (e i).shown))
 
 -- the loop: what was done in a turn of it against the line's own
 module _ (p : List ℕ × ℕ) (line : ℕ) (l : List ℕ) (ls : List (List ℕ)) (m : Machine) {c : Option ℕ} {after : Machine} {q : List ℕ × ℕ} (e : (c, (after, q)) ≡ step_of (turn_of (line_of l) m) p) where

@@ -32,9 +32,9 @@ turned us (Ok shown) m = record { refusal = None; machine = m; shown = printed_t
 turned us (Err why) m = record { refusal = Some (number why); machine = m; shown = [] }
 
 -- the same with what it showed printed, and the place behind that; a refused line printed nothing
-abbrev pub stepped : (at : ℕ) → Result ℕ Why → Machine → (out : List ℕ) → Option ℕ × (Machine × (List ℕ × ℕ))
-stepped at (Ok next) m out = (None, (m, (out, next)))
-stepped at (Err why) m out = (Some (number why), (m, (out, at)))
+abbrev pub stepped : Result Unit Why → Machine → List ℕ × ℕ → Option ℕ × (Machine × (List ℕ × ℕ))
+stepped (Ok done) m p = (None, (m, p))
+stepped (Err why) m p = (Some (number why), (m, p))
 
 abbrev pub step_of : Turn → List ℕ × ℕ → Option ℕ × (Machine × (List ℕ × ℕ))
 step_of t p = (t.refusal, (t.machine, put p t.shown))

@@ -8,4 +8,5 @@ mod session;
 mod text;
 
 pub use listing::put_refusal;
-pub use session::{Ended, Stop, Why, run};
+pub use session::{Ended, ROOM, Stop, Why, run};
+pub use text::LONGEST;

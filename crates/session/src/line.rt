@@ -23,7 +23,8 @@ pub struct Line {
     pub action: Action,
 }
 
-// The value that a text starts with, up to a largest one, with the newline behind it.
+// The value that a text starts with, up to a largest one, with the newline behind it. The largest one is the rule's, and
+// where the value is cast below no bit is lost by it: `try_from` would test the same again.
 fn value(text: &[u8], most: u64) -> Option<u64>
     ensures value { result ≡ value_of text.now 0 most }
     ensures bound { IfSome result (λ value. value ≤ most) }

@@ -1,10 +1,9 @@
-// The listing: a line for each drive, and one for a refusal. Its bytes and the place in them stand side by
-// side, as in `decimal`'s print, which says why.
+// The listing: a line for each drive, and one for a refusal.
 ghost use Rattle.std.specs.Prelude.{◌≡◌, [], ◌∷◌};
 ghost use Rattle.decimal.specs.Print.{put};
 ghost use Rattle.session.specs.Listing.{listing_names, field_text, inverted_field, lit_of, frame_field, row_of, drive_line, refusal_line};
 
-use decimal::{put_byte, put_bytes, put_number};
+use decimal::Writer;
 use scan::Driven;
 
 // The fields that are printed of a drive. (A drive itself is larger, by the segments that are only counted.)
@@ -17,22 +16,24 @@ pub struct Row {
     pub frame: u16,
 }
 
-// Puts the names line at the start.
-pub(crate) fn put_names(out: &mut [u8]) -> usize
-    ensures { (out.new, result) ≡ put (out.old, 0) listing_names }
+// Puts the names line.
+pub(crate) fn put_names(w: &mut Writer<'_>)
+    ensures same { w.new.out.ghost_name ≡ w.old.out.ghost_name }
+    ensures puts { (w.new.out.now, w.new.at) ≡ put (w.old.out.now, w.old.at) listing_names }
 {
-    put_bytes(out, 0, b"us common inverted v0 lit frame\n")
+    w.put_bytes(b"us common inverted v0 lit frame\n");
 }
 
 // Puts a field, a number or `-`, and the byte behind it.
-fn put_field(out: &mut [u8], at: usize, field: Option<u64>, end: u8) -> usize
-    ensures { (out.new, result) ≡ put (out.old, at) (field_text field end) }
+fn put_field(w: &mut Writer<'_>, field: Option<u64>, end: u8)
+    ensures same { w.new.out.ghost_name ≡ w.old.out.ghost_name }
+    ensures puts { (w.new.out.now, w.new.at) ≡ put (w.old.out.now, w.old.at) (field_text field end) }
 {
-    let next = match field {
-        Some(n) => put_number(out, at, n),
-        None => put_byte(out, at, b'-'),
-    };
-    put_byte(out, next, end)
+    match field {
+        Some(n) => w.put_number(n),
+        None => w.put_byte(b'-'),
+    }
+    w.put_byte(end);
 }
 
 fn inverted_field(inverted: bool) -> Option<u64>
@@ -69,23 +70,25 @@ pub(crate) fn row_of(driven: Driven) -> Row
 }
 
 // Puts the line of a drive.
-pub(crate) fn put_drive(out: &mut [u8], at: usize, us: u64, row: Row) -> usize
-    ensures { (out.new, result) ≡ put (out.old, at) (drive_line us row) }
+pub(crate) fn put_drive(w: &mut Writer<'_>, us: u64, row: Row)
+    ensures same { w.new.out.ghost_name ≡ w.old.out.ghost_name }
+    ensures puts { (w.new.out.now, w.new.at) ≡ put (w.old.out.now, w.old.at) (drive_line us row) }
 {
-    let behind_us = put_field(out, at, Some(us), b' ');
-    let behind_common = put_field(out, behind_us, row.common.map(u64::from), b' ');
-    let behind_inverted = put_field(out, behind_common, inverted_field(row.inverted), b' ');
-    let behind_v0 = put_field(out, behind_inverted, row.v0.map(u64::from), b' ');
-    let behind_lit = put_field(out, behind_v0, Some(row.lit), b' ');
-    put_field(out, behind_lit, frame_field(row.common, row.frame), b'\n')
+    put_field(w, Some(us), b' ');
+    put_field(w, row.common.map(u64::from), b' ');
+    put_field(w, inverted_field(row.inverted), b' ');
+    put_field(w, row.v0.map(u64::from), b' ');
+    put_field(w, Some(row.lit), b' ');
+    put_field(w, frame_field(row.common, row.frame), b'\n');
 }
 
 // Puts the line of a refusal.
-pub fn put_refusal(out: &mut [u8], at: usize, number: u64, line: u64) -> usize
-    ensures { (out.new, result) ≡ put (out.old, at) (refusal_line number line) }
+pub fn put_refusal(w: &mut Writer<'_>, number: u64, line: u64)
+    ensures same { w.new.out.ghost_name ≡ w.old.out.ghost_name }
+    ensures puts { (w.new.out.now, w.new.at) ≡ put (w.old.out.now, w.old.at) (refusal_line number line) }
 {
-    let behind_word = put_bytes(out, at, b"refused ");
-    let behind_number = put_field(out, behind_word, Some(number), b' ');
-    let behind_line = put_bytes(out, behind_number, b"line ");
-    put_field(out, behind_line, Some(line), b'\n')
+    w.put_bytes(b"refused ");
+    put_field(w, Some(number), b' ');
+    w.put_bytes(b"line ");
+    put_field(w, Some(line), b'\n');
 }

@@ -20,6 +20,7 @@ use crate::text::{line_length, lines_behind};
 use checks::{Check, Numbered};
 use clock::Time;
 use controller::{Nt7508, Refusal};
+use decimal::Writer;
 use scan::Memory;
 
 // Why a session stops: its text, a lent listing that is too short, or a call's own refusal.
@@ -75,7 +76,7 @@ impl Numbered for Why {
 }
 
 // The bytes of a listing that every text's fits into.
-const ROOM: usize = 589_824;
+pub const ROOM: usize = 589_824;
 
 // Whether a wait has ended. (A function of its own: the proof knows the range of a parameter's fields, and
 // did not close in `waited`, where the end of the wait stands in an Option.)
@@ -134,64 +135,65 @@ fn perform(
 }
 
 // Prints what a line showed.
-fn printed(out: &mut [u8], at: usize, us: u64, shown: Option<Row>) -> usize
-    ensures { (out.new, result) ≡ put (out.old, at) (printed_text us shown) }
+fn print(w: &mut Writer<'_>, us: u64, shown: Option<Row>)
+    ensures same { w.new.out.ghost_name ≡ w.old.out.ghost_name }
+    ensures puts { (w.new.out.now, w.new.at) ≡ put (w.old.out.now, w.old.at) (printed_text us shown) }
 {
-    match shown {
-        Some(row) => put_drive(out, at, us, row),
-        None => at,
+    if let Some(row) = shown {
+        put_drive(w, us, row);
     }
 }
 
-// One line, its newline included. It gives the place in the listing behind what it printed; a line that
-// is refused leaves all as it was.
+// One line, its newline included. A line that is refused leaves all as it was.
 fn next_line(
     bytes: &[u8],
     state: &mut Nt7508,
     ram: &mut [u8],
     icons: &mut [u8],
-    out: &mut [u8],
-    at: usize,
-) -> Result<usize, Why>
-    ensures { stepped at result (machine_of state.new ram.new icons.new) out.new ≡ step_of (turn_of (line_of bytes.now) (machine_of state.old ram.old icons.old)) (out.old, at) }
+    w: &mut Writer<'_>,
+) -> Result<(), Why>
+    ensures same { w.new.out.ghost_name ≡ w.old.out.ghost_name }
+    ensures steps { stepped result (machine_of state.new ram.new icons.new) (w.new.out.now, w.new.at) ≡ step_of (turn_of (line_of bytes.now) (machine_of state.old ram.old icons.old)) (w.old.out.now, w.old.at) }
 {
     let line = line_of(bytes).ok_or(Why::Line)?;
     let shown = perform(line, state, ram, icons)?;
-    Ok(printed(out, at, line.us, shown))
+    print(w, line.us, shown);
+    Ok(())
 }
 
 // A session that a line stops.
-fn refused(state: Nt7508, out: &mut [u8], at: usize, stop: Stop) -> Ended
-    ensures { stopped_as result out.new ≡ stopped_by state (out.old, at) stop }
+fn refused(state: Nt7508, w: &mut Writer<'_>, stop: Stop) -> Ended
+    ensures same { w.new.out.ghost_name ≡ w.old.out.ghost_name }
+    ensures stops { stopped_as result w.new.out.now ≡ stopped_by state (w.old.out.now, w.old.at) stop }
 {
+    put_refusal(w, stop.why.number(), stop.line);
     Ended {
         state,
-        written: put_refusal(out, at, stop.why.number(), stop.line),
+        written: w.at,
         end: Err(stop),
     }
 }
 
 // The lines from the second on.
-fn lines(text: &[u8], ram: &mut [u8], icons: &mut [u8], out: &mut [u8], start: usize) -> Ended
+fn lines(text: &[u8], ram: &mut [u8], icons: &mut [u8], w: &mut Writer<'_>) -> Ended
     requires { length text.now < 65536 }
-    ensures { answered result ram.new icons.new out.new ≡ laid_from (out.old, start) (run_from 2 (lines_of text.now) (start_of ram.old icons.old)) }
+    ensures same { w.new.out.ghost_name ≡ w.old.out.ghost_name }
+    ensures runs { answered result ram.new icons.new w.new.out.now ≡ laid_from (w.old.out.now, w.old.at) (run_from 2 (lines_of text.now) (start_of ram.old icons.old)) }
 {
     let mut state = Nt7508::new();
-    let mut at = start;
     let mut rest = text;
     let mut line: u64 = 2;
     while !rest.is_empty() {
         let (bytes, behind) = rest.split_at(line_length(rest));
-        match next_line(bytes, &mut state, ram, icons, out, at) {
-            Ok(next) => at = next,
-            Err(why) => return refused(state, out, at, Stop { why, line }),
+        if let Err(why) = next_line(bytes, &mut state, ram, icons, w) {
+            return refused(state, w, Stop { why, line });
         }
         rest = behind;
         line += 1;
     }
     Ended {
         state,
-        written: at,
+        written: w.at,
         end: Ok(()),
     }
 }
@@ -211,13 +213,14 @@ pub fn run(text: &[u8], ram: &mut [u8], icons: &mut [u8], out: &mut [u8]) -> End
             }),
         };
     }
-    let at = put_names(out);
+    let mut w = Writer::new(out);
+    put_names(&mut w);
     let Some(rest) = lines_behind(text) else {
         let stop = Stop {
             why: Why::Line,
             line: 1,
         };
-        return refused(Nt7508::new(), out, at, stop);
+        return refused(Nt7508::new(), &mut w, stop);
     };
-    lines(rest, ram, icons, out, at)
+    lines(rest, ram, icons, &mut w)
 }

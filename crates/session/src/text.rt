@@ -5,7 +5,7 @@ ghost use Rattle.decimal.specs.Rest.{rest_view};
 ghost use Rattle.session.specs.Text.{opened, line_length as length_of};
 
 // The most bytes that a text may have.
-const LONGEST: usize = 65536;
+pub const LONGEST: usize = 65536;
 
 // The lines behind the names line of a text, if it is short enough and starts with that line.
 pub(crate) fn lines_behind(text: &[u8]) -> Option<&[u8]>

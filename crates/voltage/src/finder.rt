@@ -15,7 +15,8 @@ pub struct Pair {
 }
 
 // Whether the target with this contrast lies in the band, `scaled` being t x gain and `base` what
-// the contrast is added to.
+// the contrast is added to. The band is two numbers and no struct: C hands them as two, and this alone
+// reads both.
 fn in_band(low: u32, high: u32, scaled: u64, base: u64, contrast: u8) -> bool
     requires scaled_bound { scaled < 2 ^ 49 }
     requires base_bound { base ≤ 154 }

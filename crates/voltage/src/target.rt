@@ -80,7 +80,7 @@ pub(crate) fn microvolts_of(scaled: u64, e: u64) -> u32
     requires e_bound { e < 256 }
     ensures { result ≡ rounded (scaled * e) }
 {
-    ((scaled * e + 750_000) / 1_500_000).min(4_294_967_295) as u32
+    u32::try_from((scaled * e + 750_000) / 1_500_000).unwrap_or(u32::MAX)
 }
 
 pub(crate) fn target_of(settings: Checked<Settings>, temperature: i32) -> u32

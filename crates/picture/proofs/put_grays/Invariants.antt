@@ -1,4 +1,5 @@
--- What the pixels that are left make of the lent bytes so far is what all make of those at the start.
+-- The bytes are still those that were lent, and what the pixels that are left make of them is what all make of those at
+-- the start.
 use mathlib.Core.List.{map}
 use mathlib.Core.Path.{◌≡◌}
 use lib.ListN.{drop}
@@ -8,4 +9,5 @@ use Rattle.picture.proofs.put_grays.Given as goal
 
 abbrev pub invariant-loop-level : goal.invariant-loop-level
 invariant-loop-level l =
-    put (l.out, l.next) (map gray_of (drop l.level-index l.image)) ≡ put (l.initial.out, l.at) (map gray_of l.image)
+    (l.w.out.ghost_name ≡ l.initial.w.out.ghost_name)
+    × (put (l.w.out.now, l.w.at) (map gray_of (drop l.level-index l.image)) ≡ put (l.initial.w.out.now, l.initial.w.at) (map gray_of l.image))

@@ -7,12 +7,12 @@ use Rattle.picture.specs.Picture.{gray_of}
 use Rattle.picture.proofs.Drawing.{paints, picture_put}
 use Rattle.picture.proofs.put_picture.Goals as goal
 
-pub returns : goal.returns
-returns c =
+pub returns-clause-puts : goal.returns-clause-puts
+returns-clause-puts c =
     let a = c.args in
-    c.put_grays.ensures
-    ∙ ap (λ (q : List ℕ × ℕ). put q (map gray_of c.render.new.pixels)) c.put_bytes-at.ensures
-    ∙ picture_put a.state.value a.state.passes a.ram.now a.icons.now _ (search rules) (search rules) (search rules) c.render.result _ (a.out.now, 0) c.render.ensures
+    c.put_grays.ensures.puts
+    ∙ ap (λ (q : List ℕ × ℕ). put q (map gray_of c.render.new.pixels)) c.put_bytes.ensures.puts
+    ∙ picture_put a.state.value a.state.passes a.ram.now a.icons.now _ (search rules) (search rules) (search rules) c.render.result _ (a.w.now.out.now, a.w.now.at) c.render.ensures
 
 pub unwrap-requires : goal.unwrap-requires
 unwrap-requires c =

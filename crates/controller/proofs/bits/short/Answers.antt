@@ -10,10 +10,10 @@ returns-then-not-taking c = λ now ram icons. edges_idle _ now _ (test_false c.t
 
 pub grown-requires : goal.grown-requires
 grown-requires c =
-    omega (arith, not_completed _ _ c.requires.count_value (test_true c.taking.ensures c.if-not-taking.false))
+    omega (arith, not_completed _ _ c.requires (test_true c.taking.ensures c.if-not-taking.false))
 
 pub returns : goal.returns
 returns c =
     let t = test_true c.taking.ensures c.if-not-taking.false in
     λ now ram icons. simp c.grown.ensures
-    (edges_short _ _ now _ t (not_completed _ _ c.requires.count_value t) (search rules) (group_bounds _ _ c.requires.count_value_2).1)
+    (edges_short _ _ now _ t (not_completed _ _ c.requires t) (search rules) (group_bounds _ _ c.args.group.fits).1)

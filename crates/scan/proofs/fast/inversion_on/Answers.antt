@@ -4,4 +4,4 @@ use Rattle.scan.proofs.fast.inversion_on.Goals as goal
 
 pub returns : goal.returns
 unfolding inversion_on
-returns c = let lines = c.args.inversion.lines in simp (c.inversion_taken.ensures, eq-eqb lines lines refl)
+returns c = let lines = c.args.inversion.lines in simp (c.taken.ensures, eq-eqb lines lines refl)

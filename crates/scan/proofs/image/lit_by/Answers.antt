@@ -1,7 +1,6 @@
-use Rattle.std.proofs.Common.{refl}
 use Rattle.scan.specs.Image.{lit_by}
 use Rattle.scan.proofs.image.lit_by.Goals as goal
 
 pub returns : goal.returns
 unfolding lit_by
-returns c = refl
+returns c = simp c.keeps_clock.ensures

@@ -9,7 +9,7 @@ returns-in-Begins c = simp c.in-Begins.is
 pub returns-in-Continues : goal.returns-in-Continues
 unfolding settled
 returns-in-Continues c =
-    simp (c.in-Continues.is, c.lines_stay-stay.ensures, c.is_some-clocked.ensures, has_clock_is)
+    simp (c.in-Continues.is, c.lines_stay-stay.ensures, c.is_some-clocked.ensures, has_clock_is, c.keeps_clock.ensures)
 
 pub returns-in-Stands : goal.returns-in-Stands
 unfolding settled

@@ -9,11 +9,9 @@ use Rattle.session.proofs.session.lines.Given as goal
 
 abbrev pub invariant-loop-rest : goal.invariant-loop-rest
 invariant-loop-rest l =
-    (l.line + length l.rest ≤ 2 + length l.text)
-    × ((length l.ram ≡ length l.initial.ram)
-    × ((length l.icons ≡ length l.initial.icons)
-    × ((length l.out ≡ length l.initial.out)
-    × (laid_from (l.out, l.at) (run_from l.line (lines_of l.rest) (machine_of l.state l.ram l.icons)) ≡ laid_from (l.initial.out, l.start) (run_from 2 (lines_of l.text) (machine_of power_on l.initial.ram l.initial.icons))))))
+    (l.w.out.ghost_name ≡ l.initial.w.out.ghost_name)
+    × ((l.line + length l.rest ≤ 2 + length l.text)
+    × (laid_from (l.w.out.now, l.w.at) (run_from l.line (lines_of l.rest) (machine_of l.state l.ram l.icons)) ≡ laid_from (l.initial.w.out.now, l.initial.w.at) (run_from 2 (lines_of l.text) (machine_of power_on l.initial.ram l.initial.icons))))
 
 abbrev pub decreases-loop-rest : goal.decreases-loop-rest
 decreases-loop-rest l = length l.rest

@@ -1,7 +1,6 @@
-use Rattle.scan.specs.Check.{valid_settings}
+use Rattle.scan.proofs.ValidQuanta.{frame_tests}
 use Rattle.scan.proofs.settings.Settings.valid.Goals as goal
 
 pub returns : goal.returns
-unfolding valid_settings
 returns c =
-    simp c.lines_ok.ensures
+    simp (c.valid_frame.ensures, c.frame_of.ensures, c.lines_ok.ensures, frame_tests c.args.self)
