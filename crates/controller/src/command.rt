@@ -116,7 +116,7 @@ pub(crate) fn address_after(address: Address, byte: u8) -> Address
     next
 }
 
-// The parameters that set a duty; another leaves it. The scan tests its duty among all of its settings, and has no test
+// The parameters that set a duty; another leaves it. The scan tests a duty with the rest of a frame, and has no test
 // of a duty by itself.
 fn is_duty(byte: u8) -> bool
     ensures { result ≡ between 16 128 byte }

@@ -10,7 +10,7 @@ use crate::planes::{RowBits, shown_shade};
 use crate::settings::Settings;
 
 // The levels of what the two bits of a segment show, by their number: worked out once for all pixels.
-// Four lines and no `map` of [0, 1, 2, 3]: that was tried, and the proof did not close, as in planes.rt.
+// Four lines: whether a `map` of [0, 1, 2, 3] can be proved is open.
 fn levels_of(settings: Settings) -> [u8; 4]
     ensures { result ≡ levels_of settings }
 {

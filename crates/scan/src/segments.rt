@@ -12,7 +12,7 @@ use crate::shade::pulse_width;
 use crate::state::Scan;
 
 // The activity of what the two bits of a segment show, by their number: it holds for a whole row. Four
-// lines and no `map` of [0, 1, 2, 3], as in paint.rt: its proof would go by each call of the closure in turn.
+// lines, as in paint.rt.
 pub(crate) fn active_shades(scan: Scan, settings: Settings) -> [bool; 4]
     ensures { result ≡ active_shades scan settings }
 {
