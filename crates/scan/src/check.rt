@@ -171,7 +171,8 @@ pub(crate) fn check_but_clock(scan: Scan, settings_ok: bool, now: Time) -> Resul
     Ok(())
 }
 
-// The same with number 5.
+// The same with number 5. Inline: no scan need be put into memory for it.
+#[inline(always)]
 #[tactic(auto, using(std::proofs::lemmas::Result::err_from_is_err_and), unfolding(crate::specs::Check::check_moment, crate::specs::Check::check_but_clock, crate::specs::Check::check_scan, crate::specs::Check::in_order))]
 pub(crate) fn check_moment(scan: Scan, settings_ok: bool, now: Time) -> Result<(), Refusal>
     ensures { refused result ≡ check_moment scan settings_ok now }

@@ -2,7 +2,7 @@
 // electrode. Document 01, 'Drive, electrodes, image'.
 ghost use Rattle.std.specs.Prelude.{◌≡◌, ◌<◌};
 ghost use Rattle.voltage.specs.Voltage.{voltages};
-ghost use Rattle.scan.specs.Drive.{runs as runs_by, driven as driven_by, grounded as grounded_by, common_of, undriven as undriven_of, drive_of, drive_at, quanta_of, frame_at, answered_drive, drive_scan, common_level, segment_level, active_in, common_microvolts, segment_microvolts};
+ghost use Rattle.scan.specs.Drive.{off, runs as runs_by, driven as driven_by, grounded as grounded_by, common_of, undriven as undriven_of, drive_of, drive_at, quanta_of, frame_at, answered_drive, drive_scan, common_level, segment_level, active_in, common_microvolts, segment_microvolts};
 
 use crate::check::{Refusal, check_lent};
 use crate::count::{counted_to, is_due};
@@ -156,7 +156,9 @@ fn levels_of(analog: Checked<voltage::Settings>, supply: Supply) -> LcdVoltages
     voltage::voltages(analog.value, supply).unwrap()
 }
 
-// The drive at a moment. The scan itself is left where it was.
+// The drive at a moment. The scan itself is left where it was. Inline, so that the controller's call need not copy
+// the answer once more.
+#[inline(always)]
 pub fn drive(
     scan: Scan,
     settings: Settings,
@@ -253,4 +255,12 @@ impl LcdDrive {
             self.inverted,
         )
     }
+}
+
+// Ties the constant to its definition.
+#[tactic(auto, unfolding(crate::specs::Drive::off))]
+fn off_drive() -> LcdDrive
+    ensures { result ≡ off }
+{
+    LcdDrive::OFF
 }
